@@ -1,0 +1,4 @@
+pub mod Table
+pub mod Numbers
+pub mod Refusals
+pub mod Weights
