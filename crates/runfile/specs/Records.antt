@@ -2,14 +2,14 @@
 use Prim.Native.Nat.{ℕ, _+_, _-_}
 use mathlib.Core.Bool.{Bool, cond}
 use mathlib.Core.List.{List, [], _∷_}
-use lib.Dec.{eqb, leb}
+use lib.Dec.{eqb, leb, ltb}
 use lib.ListN.{length, take, drop}
 use Rattle.std.specs.declared.option.Option.{Option}
 use Rattle.std.specs.declared.option.Option.the-variants.{Some, None}
 use Rattle.std.specs.declared.result.Result.{Result}
 use Rattle.std.specs.declared.result.Result.the-variants.{Ok, Err}
 use Rattle.runfile.specs.declared.fault.Cause.{Cause}
-use Rattle.runfile.specs.declared.fault.Cause.the-variants.{UnknownKind, CutShort}
+use Rattle.runfile.specs.declared.fault.Cause.the-variants.{TooLong, UnknownKind, CutShort}
 use Rattle.runfile.specs.declared.fault.Fault.{Fault}
 use Rattle.runfile.specs.declared.record.Record.{Record}
 use Rattle.runfile.specs.declared.record.Record.the-variants as kinds
@@ -34,6 +34,10 @@ body-length kind =
 abbrev pub fault-at : ℕ → Cause → Fault
 fault-at p c = record { place = p; cause = c }
 
+-- a file has at most 65,536 bytes
+abbrev pub too-long : List ℕ → Option Fault
+too-long file = cond (ltb 65536 (length file)) (Some (fault-at 65536 TooLong)) None
+
 -- in a file of n bytes: a record of this kind at p, with a body of this length at the front of what follows
 abbrev pub part-of : ℕ → ℕ → ℕ → List ℕ → Option ℕ → Result Part Fault
 part-of n p k more None = Err (fault-at p UnknownKind)
@@ -46,6 +50,13 @@ part-of n p k more (Some size) =
 abbrev pub first-record : ℕ → List ℕ → Result Part Fault
 first-record n [] = Err (fault-at n CutShort)
 first-record n (kind ∷ more) = part-of n (n - length (kind ∷ more)) kind more (body-length kind)
+
+abbrev pub place-of : Record → ℕ
+place-of (kinds.Head p b) = p
+place-of (kinds.Share p b) = p
+place-of (kinds.Seal p) = p
+place-of (kinds.Arrival p b) = p
+place-of (kinds.End p) = p
 
 -- what the reader hands out, as such a part
 abbrev pub part-seen : Record → Rest → Part

@@ -3,8 +3,9 @@ ghost use Prim.Native.Nat.{_-_};
 ghost use mathlib.Core.Path.{_≡_};
 ghost use lib.ListN.{length};
 ghost use Rattle.std.specs.Results.{Cases};
+ghost use Rattle.std.specs.declared.option.Option.the-variants.{Some, None};
 ghost use Rattle.std.specs.declared.result.Result.the-variants.{Ok, Err};
-ghost use Rattle.runfile.specs.Records.{first-record, part-seen};
+ghost use Rattle.runfile.specs.Records.{first-record, part-seen, too-long};
 use crate::fault::Cause;
 use crate::fault::Fault;
 
@@ -34,6 +35,22 @@ impl<'a> Rest<'a> {
     }
 }
 
+// The whole file unread, or a refusal if it is too long.
+pub fn open<'a>(file: &'a [u8]) -> Result<Rest<'a>, Fault>
+    ensures { λ r. ⌜ Cases r (λ rest. (too-long (now (file .entry)) ≡ None) × (rest .length ≡ length (now (file .entry))) × (now (rest .bytes) ≡ now (file .entry))) (λ f. too-long (now (file .entry)) ≡ Some f) ⌝ }
+{
+    if file.len() > 65536 {
+        return Err(Fault {
+            place: 65536,
+            cause: Cause::TooLong,
+        });
+    }
+    Ok(Rest {
+        length: file.len(),
+        bytes: file,
+    })
+}
+
 // The first record of what is left, and what is left behind it.
 pub fn read_record<'a>(rest: Rest<'a>) -> Result<(Record<'a>, Rest<'a>), Fault>
     ensures { λ r. ⌜ Cases r (λ v. (first-record (rest .entry .length) (now (rest .entry .bytes)) ≡ Ok (part-seen (v .0) (v .1))) × (v .1 .length ≡ rest .entry .length)) (λ f. first-record (rest .entry .length) (now (rest .entry .bytes)) ≡ Err f) ⌝ }
@@ -56,12 +73,24 @@ pub fn read_record<'a>(rest: Rest<'a>) -> Result<(Record<'a>, Rest<'a>), Fault>
             Some((body, bytes)) => Ok((Record::Share { place, body }, Rest { length, bytes })),
             None => Err(cut),
         },
-        3 => Ok((Record::Seal { place }, Rest { length, bytes: more })),
+        3 => Ok((
+            Record::Seal { place },
+            Rest {
+                length,
+                bytes: more,
+            },
+        )),
         4 => match more.split_first_chunk::<7>() {
             Some((body, bytes)) => Ok((Record::Arrival { place, body }, Rest { length, bytes })),
             None => Err(cut),
         },
-        5 => Ok((Record::End { place }, Rest { length, bytes: more })),
+        5 => Ok((
+            Record::End { place },
+            Rest {
+                length,
+                bytes: more,
+            },
+        )),
         _ => Err(Fault {
             place,
             cause: Cause::UnknownKind,
