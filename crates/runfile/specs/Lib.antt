@@ -3,3 +3,4 @@ pub mod Bodies
 pub mod Records
 pub mod Order
 pub mod Seen
+pub mod File

@@ -5,6 +5,7 @@ ghost use lib.ListN.{length};
 ghost use Rattle.std.specs.Results.{Cases};
 ghost use Rattle.std.specs.declared.option.Option.the-variants.{Some, None};
 ghost use Rattle.std.specs.declared.result.Result.the-variants.{Ok, Err};
+ghost use Rattle.runfile.specs.File.{Library, Whole};
 ghost use Rattle.runfile.specs.Records.{first-record, part-seen, too-long};
 use crate::fault::Cause;
 use crate::fault::Fault;
@@ -37,7 +38,8 @@ impl<'a> Rest<'a> {
 
 // The whole file unread, or a refusal if it is too long.
 pub fn open<'a>(file: &'a [u8]) -> Result<Rest<'a>, Fault>
-    ensures { λ r. ⌜ Cases r (λ rest. (too-long (now (file .entry)) ≡ None) × (rest .length ≡ length (now (file .entry))) × (now (rest .bytes) ≡ now (file .entry))) (λ f. too-long (now (file .entry)) ≡ Some f) ⌝ }
+    ensures answers { λ r. ⌜ Cases r (λ rest. (too-long (now (file .entry)) ≡ None) × (rest .length ≡ length (now (file .entry))) × (now (rest .bytes) ≡ now (file .entry))) (λ f. too-long (now (file .entry)) ≡ Some f) ⌝ }
+    ensures whole { λ _. ⌜ ((library : Library) → Whole library (now (file .entry))) ⌝ }
 {
     if file.len() > 65536 {
         return Err(Fault {

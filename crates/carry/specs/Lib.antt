@@ -1,0 +1,3 @@
+pub mod Booked
+pub mod Lists
+pub mod Carries
