@@ -1,14 +1,14 @@
-// A run file on standard input to its listing on standard output.
+// The program: a run file on standard input to its listing on standard output.
 use carry::CarryError;
 use carry::carry;
 use std::error::AnyError;
 use std::io::Read;
 use std::io::Write;
 
-// The longest file that a reader accepts, and one byte more, by which a longer one is told.
+// The longest file that is accepted, and one byte more, by which a longer one is told.
 const MOST: usize = 65537;
 
-// At most `MOST` bytes of standard input.
+// The first bytes of standard input, at most `MOST`.
 fn read_file(rt: &LibcRuntime) -> Result<Vec<u8>, AnyError> {
     let mut file = vec![in rt.alloc(); 0u8; MOST]?;
     let mut len = 0;
@@ -35,10 +35,22 @@ fn run(rt: &LibcRuntime) -> Result<(), AnyError> {
             Ok(())
         }
         Err(CarryError::Memory) => Err("no memory for the listing".into()),
-        Err(CarryError::Arrival { .. }) => Err("the file has an arrival, and arrivals are not carried yet".into()),
+        Err(CarryError::Arrival { place }) => {
+            let text = format!(
+                rt.alloc(),
+                "arrivals are not carried yet: one stands at byte {place}"
+            )?;
+            Err(text.into())
+        }
     }
 }
 
 fn main(rt: LibcRuntime) -> Result<(), AnyError> {
-    rt.report(run(&rt))
+    match run(&rt) {
+        Ok(()) => Ok(()),
+        Err(error) => {
+            eprintln!(rt, "gaps: {error}")?;
+            Err(error)
+        }
+    }
 }
