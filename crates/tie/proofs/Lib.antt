@@ -1,0 +1,4 @@
+pub mod Examples
+pub mod Longests
+pub mod Picked
+pub mod Rounds

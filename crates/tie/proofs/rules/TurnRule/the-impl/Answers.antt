@@ -1,0 +1,12 @@
+use Rattle.tie.proofs.Picked.{first-picked, none, picks, untied}
+use Rattle.tie.proofs.rules.TurnRule.the-impl.Needs as need
+use Rattle.tie.specs.Pointers.{pointer-of}
+
+pub picks-law : need.picks-law
+picks-law rule code ties waiting k = picks ties _ k (first-picked ties (pointer-of rule code))
+
+pub none-law : need.none-law
+none-law rule code ties waiting = none ties _ (first-picked ties (pointer-of rule code))
+
+pub untied-law : need.untied-law
+untied-law rule code ties waiting = untied ties _ (first-picked ties (pointer-of rule code))
