@@ -1,0 +1,49 @@
+// The law of the schedule: what a port of the switch does, and by when it is done. There is nothing to compute: each
+// contract is a theorem.
+ghost use Rattle.law.specs.Examples.{A-run, Examples-hold};
+ghost use Rattle.law.specs.Port.{Port-stays-sound};
+ghost use Rattle.law.specs.Promises.{Runs-keep-promises};
+ghost use Rattle.law.specs.Rules.{Rules-make-steps};
+ghost use Rattle.law.specs.Shares.{Flow-keeps-its-share};
+
+// A port is on time at every moment of every run.
+pub fn port_stands() -> u8
+    ensures { λ _. ⌜ Port-stays-sound ⌝ }
+{
+    0
+}
+
+// A flow whose packets are on time keeps its share.
+pub fn share_stands() -> u8
+    ensures { λ _. ⌜ Flow-keeps-its-share ⌝ }
+{
+    0
+}
+
+// Every moment of every run keeps the promises to each flow.
+pub fn promises_stand() -> u8
+    ensures { λ _. ⌜ Runs-keep-promises ⌝ }
+{
+    0
+}
+
+// Whatever a tie rule keeps, its answers make a step.
+pub fn rules_stand() -> u8
+    ensures { λ _. ⌜ Rules-make-steps ⌝ }
+{
+    0
+}
+
+// The worked examples hold.
+pub fn examples_stand() -> u8
+    ensures { λ _. ⌜ Examples-hold ⌝ }
+{
+    0
+}
+
+// There are runs with departures and refusals: this is one.
+pub fn a_run_stands() -> u8
+    ensures { λ _. ⌜ A-run ⌝ }
+{
+    0
+}
