@@ -7,7 +7,7 @@ use Rattle.std.specs.declared.option.Option.{Option}
 use Rattle.std.specs.declared.option.Option.the-variants.{None}
 use Rattle.std.specs.declared.result.Result.the-variants.{Ok}
 use Rattle.std.specs.Options.{mapped}
-use Rattle.plan.specs.Table.{with-weight}
+use Rattle.grid.specs.Flows.{with-flow}
 use Rattle.plan.specs.Refusals.{size-refusal, share-refusal}
 use Rattle.plan.specs.Weights.{weight-of}
 use Rattle.plan.specs.declared.table.Plan.{Plan}
@@ -41,7 +41,7 @@ parts (end ∷ is) = parts is
 abbrev pub weights : List Item → ℕ → ℕ → ℕ
 weights [] = λ _ _. 0
 weights (head h ∷ is) = λ _ _. 0
-weights (share s ∷ is) = with-weight (weights is) (s .input) (s .output) (s .weight)
+weights (share s ∷ is) = with-flow (weights is) (s .input) (s .output) (s .weight)
 weights (seal ∷ is) = weights is
 weights (arrival a ∷ is) = weights is
 weights (end ∷ is) = weights is

@@ -6,7 +6,7 @@ ghost use lib.ListN.{length};
 ghost use Rattle.std.specs.Results.{Cases};
 ghost use Rattle.std.specs.Options.{mapped};
 ghost use Rattle.std.specs.declared.option.Option.the-variants.{Some, None};
-ghost use Rattle.plan.specs.Table.{with-weight};
+ghost use Rattle.grid.specs.Flows.{with-flow};
 ghost use Rattle.plan.specs.Weights.{weight-of, refusal-of};
 ghost use Rattle.runfile.specs.Order.{Item, Booking as Open, Running};
 ghost use Rattle.runfile.specs.Order as order;

@@ -6,7 +6,7 @@ use Prim.Native.Nat.{ℕ, _<_}
 use lib.Dec.{lit<, lit≤}
 use native.Mathlib.Omega.{arith}
 use Rattle.std.proofs.shelf.Results.{cases-at-some, cases-at-none}
-use Rattle.plan.specs.Table.{sum-below}
+use Rattle.grid.specs.Flows.{sum-below}
 use Rattle.tie.proofs.Rounds.{lowest-law}
 use Rattle.tie.specs.Positions.{first-round, lowest, Untied, Lowest-tied}
 use Rattle.law.specs.Journeys.{ended}

@@ -11,7 +11,7 @@ use Rattle.std.specs.declared.option.Option.{Option}
 use Rattle.std.specs.declared.option.Option.the-variants.{Some, None}
 use Rattle.plan.specs.Numbers.{share-number}
 use Rattle.plan.specs.Refusals.{share-refusal}
-use Rattle.plan.specs.Table.{with-weight}
+use Rattle.grid.specs.Flows.{with-flow}
 use Rattle.plan.specs.declared.fault.ShareFault.{ShareFault}
 use Rattle.timing.specs.Fluid.{Accepted, fluid}
 use Rattle.std.specs.Iters.{counting, folded}
@@ -87,7 +87,7 @@ number-of (Some f) = share-number f
 
 -- two ports, lines of 4 parts, flow (0, 0) with weight 2: flow (0, 1) is given w
 abbrev pub second-share : ℕ → ℕ
-second-share w = number-of (share-refusal 2 4 (with-weight (λ _ _. 0) 0 0 2) 0 1 w)
+second-share w = number-of (share-refusal 2 4 (with-flow (λ _ _. 0) 0 0 2) 0 1 w)
 
 abbrev pub rushed : Switch
 rushed = after-ticks 78 rush-plan lowest-rule rush

@@ -1,3 +1,2 @@
-pub mod Sums
-pub mod Cells
+pub mod Changed
 pub mod Shares

@@ -4,7 +4,8 @@ use mathlib.Core.Bool.{Bool, cond, _&&_, _||_}
 use lib.Dec.{ltb}
 use Rattle.std.specs.declared.option.Option.{Option}
 use Rattle.std.specs.declared.option.Option.the-variants.{Some, None}
-use Rattle.plan.specs.Table.{with-weight, row-sum, column-sum}
+use Rattle.grid.specs.Flows.{with-flow}
+use Rattle.plan.specs.Table.{row-sum, column-sum}
 use Rattle.plan.specs.declared.fault.SizeFault.{SizeFault}
 use Rattle.plan.specs.declared.fault.ShareFault.{ShareFault}
 use Rattle.plan.specs.declared.fault.SizeFault.the-variants as size
@@ -27,6 +28,6 @@ abbrev pub share-refusal : (n W : ℕ) → (ℕ → ℕ → ℕ) → (i j w : �
 share-refusal n W weight i j w =
     cond (ltb i n && ltb j n)
     (cond (ltb W w) (Some share.Weight)
-    (cond (ltb W (row-sum n (with-weight weight i j w) i)) (Some share.Row)
-    (cond (ltb W (column-sum n (with-weight weight i j w) j)) (Some share.Column) None)))
+    (cond (ltb W (row-sum n (with-flow weight i j w) i)) (Some share.Row)
+    (cond (ltb W (column-sum n (with-flow weight i j w) j)) (Some share.Column) None)))
     (Some share.Port)

@@ -1,22 +1,13 @@
--- A table of weights: what a list of 256 numbers says of each flow, its sums, and a change of one weight.
-use Prim.Native.Nat.{ℕ, zero, suc, _+_, _*_}
-use mathlib.Core.Bool.{Bool, cond, _&&_}
+-- A table of weights, and the sums of its rows and columns.
+use Prim.Native.Nat.{ℕ}
+use mathlib.Core.Bool.{cond}
 use mathlib.Core.List.{List}
-use lib.Dec.{eqb, ltb}
-use lib.ListN.{getD}
-
--- f 0 + f 1 + .. + f (n - 1)
-unfoldable pub sum-below : ℕ → (ℕ → ℕ) → ℕ
-sum-below zero f = 0
-sum-below (suc n) f = sum-below n f + f n
+use lib.Dec.{ltb}
+use Rattle.grid.specs.Flows.{flow-in, sum-below}
 
 -- the weight of flow (i, j), which stands at 16 × i + j; 0 outside ports 0 to 15
 abbrev pub weight-in : List ℕ → ℕ → ℕ → ℕ
-weight-in cells i j = cond (ltb i 16 && ltb j 16) (getD cells (16 * i + j) 0) 0
-
--- the weights with that of flow (i, j) replaced by w
-abbrev pub with-weight : (ℕ → ℕ → ℕ) → ℕ → ℕ → ℕ → ℕ → ℕ → ℕ
-with-weight weight i j w a b = cond (eqb a i && eqb b j) w (weight a b)
+weight-in cells = flow-in 0 cells
 
 -- of n ports: the weights of input i, and those of output j, added up
 abbrev pub row-sum : ℕ → (ℕ → ℕ → ℕ) → ℕ → ℕ

@@ -7,7 +7,7 @@ use native.Mathlib.Omega.{arith}
 use lib.ListN.{getD, set, replicate}
 use Rattle.std.proofs.shelf.Tests.{cases-eq, cases-lt}
 use Rattle.std.proofs.shelf.Lists.{getD-set-other, getD-replicate, getD-past, length-replicate}
-use Rattle.store.specs.Flows.{sum-below}
+use Rattle.grid.specs.Flows.{sum-below}
 use Rattle.pool.specs.Queues.{walk, cell-in, Cells, One-queue, One-place, Ended}
 
 -- the counts

@@ -13,10 +13,10 @@ use Rattle.std.specs.Finite.{nth}
 use Rattle.std.proofs.shelf.Tests.{cases-eq, cond-both}
 use Rattle.std.proofs.shelf.Lists.{getD-set-same, getD-set-other}
 use Rattle.store.specs.declared.packet.Packet.{Packet}
-use Rattle.store.specs.Flows.{inside, with-flow}
+use Rattle.grid.specs.Flows.{inside, with-flow}
 use Rattle.store.specs.Stored.{stored, noted, crossed}
-use Rattle.store.proofs.Flows.{flow-cell, flows-change, ports-inside}
-use Rattle.store.proofs.Sums.{flow-sum-same, flow-sum-cells, sum-more}
+use Rattle.grid.proofs.Flows.{flow-cell, flows-change, ports-inside}
+use Rattle.grid.proofs.Sums.{flow-sum-same, flow-sum-cells, sum-more}
 use Rattle.pool.specs.Queues.{cell-in, Shifted}
 use Rattle.pool.specs.Held.{packets-below, packets-of, content, queue-packets, lists-in, Filled}
 use Rattle.pool.specs.declared.links.Links.{Links}

@@ -7,8 +7,8 @@ use native.Mathlib.Omega.{arith}
 use lib.ListN.{getD, set, length}
 use Rattle.std.proofs.shelf.Tests.{cases-eq}
 use Rattle.std.proofs.shelf.Lists.{getD-set-same, getD-set-other, length-set}
-use Rattle.store.specs.Flows.{sum-below}
-use Rattle.store.proofs.Sums.{sum-change}
+use Rattle.grid.specs.Flows.{sum-below}
+use Rattle.grid.proofs.Sums.{sum-change}
 use Rattle.pool.specs.Queues.{Cells, One-queue, One-place, Ended, Shifted, counts-after}
 use Rattle.pool.proofs.Moves.{Moved, apart-from, one-queue, one-place, cells-kept, cells-moved, cell-came, moved-apart, moved-ended}
 

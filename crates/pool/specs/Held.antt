@@ -9,7 +9,7 @@ use Rattle.std.specs.declared.option.Option.{Option}
 use Rattle.std.specs.declared.option.Option.the-variants.{Some, None}
 use Rattle.std.specs.Options.{isSome}
 use Rattle.store.specs.declared.packet.Packet.{Packet}
-use Rattle.store.specs.Flows.{inside, flow-of}
+use Rattle.grid.specs.Flows.{inside, flow-of}
 use Rattle.store.specs.Stored.{stored}
 use Rattle.pool.specs.Queues.{cell-in}
 use Rattle.pool.specs.declared.links.Links.{Links}

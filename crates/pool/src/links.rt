@@ -2,7 +2,7 @@
 ghost use Prim.Native.Nat.{_<_};
 ghost use mathlib.Core.Path.{_≡_};
 ghost use lib.ListN.{length, getD, set, replicate};
-ghost use Rattle.store.specs.Flows.{sum-below};
+ghost use Rattle.grid.specs.Flows.{sum-below};
 ghost use Rattle.pool.specs.Queues.{cell-in, Cells, One-queue, One-place, Ended, Shifted};
 
 // 512 cells in 257 queues: every cell stands in one queue.

@@ -5,8 +5,8 @@ use mathlib.Core.List.{List, []}
 use lib.ListN.{getD, set, length, replicate}
 use native.Mathlib.Omega.{arith}
 use Rattle.store.specs.declared.packet.Packet.{Packet}
-use Rattle.store.specs.Flows.{flow-in, with-flow}
-use Rattle.store.proofs.Flows.{flow-read, flows-set, flows-same, with-flow-map}
+use Rattle.grid.specs.Flows.{flow-in, with-flow}
+use Rattle.grid.proofs.Flows.{flow-read, flows-set, flows-same, with-flow-map}
 use Rattle.rings.specs.Held.{packets-in, lists-in}
 use Rattle.rings.specs.declared.ring.Ring.{Ring}
 use Rattle.rings.specs.declared.ring.Ring.the-variants.{Empty, One, Two}

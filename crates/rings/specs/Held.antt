@@ -5,7 +5,7 @@ use mathlib.Core.List.{List, [], _∷_}
 use lib.Dec.{leb}
 use lib.ListN.{length}
 use Rattle.store.specs.declared.packet.Packet.{Packet}
-use Rattle.store.specs.Flows.{inside, flow-in}
+use Rattle.grid.specs.Flows.{inside, flow-in}
 use Rattle.rings.specs.declared.ring.Ring.{Ring}
 use Rattle.rings.specs.declared.ring.Ring.the-variants.{Empty, One, Two}
 

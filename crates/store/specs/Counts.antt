@@ -1,6 +1,6 @@
 -- What a numbering layer counts.
 use Prim.Native.Nat.{ℕ}
-use Rattle.store.specs.Flows.{flow-in}
+use Rattle.grid.specs.Flows.{flow-in}
 use Rattle.store.specs.declared.numbered.Numbered.{Numbered}
 
 -- how many packets of flow (i, j) were taken since the last clear, modulo 2^64

@@ -1,3 +1,2 @@
-pub mod Flows
 pub mod Stored
 pub mod Counts

@@ -3,7 +3,7 @@ use Prim.Native.Nat.{ℕ, zero, suc}
 use mathlib.Core.List.{List, [], _∷_}
 use lib.ListN.{length}
 use Rattle.std.specs.declared.option.Option.the-variants.{Some, None}
-use Rattle.store.specs.Flows.{flow-sum}
+use Rattle.grid.specs.Flows.{flow-sum}
 use Rattle.store.specs.declared.packet.Packet.{Packet}
 use Rattle.store.specs.declared.packet.Incoming.{Incoming}
 

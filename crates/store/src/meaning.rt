@@ -6,7 +6,7 @@ ghost use mathlib.Core.List.{List, [], _∷_, _++_};
 ghost use lib.Dec.{ltb};
 ghost use lib.ListN.{length, drop};
 ghost use Rattle.std.specs.Finite.{nth};
-ghost use Rattle.store.specs.Flows.{inside, with-flow};
+ghost use Rattle.grid.specs.Flows.{inside, with-flow};
 ghost use Rattle.store.specs.Stored.{stored, noted};
 ghost use Rattle.store.specs.declared.packet.Packet.{Packet as Held};
 use crate::packet::Packet;

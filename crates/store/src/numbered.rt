@@ -6,7 +6,7 @@ ghost use mathlib.Core.List.{[], _∷_, _++_};
 ghost use lib.Dec.{ltb};
 ghost use lib.ListN.{length, drop};
 ghost use Rattle.std.specs.Finite.{nth};
-ghost use Rattle.store.specs.Flows.{with-flow};
+ghost use Rattle.grid.specs.Flows.{with-flow};
 ghost use Rattle.store.specs.Stored.{noted, numbered};
 ghost use Rattle.store.specs.Counts.{counts};
 use crate::meaning::Store;

@@ -3,7 +3,8 @@ ghost use Prim.Native.Nat.{ℕ, _≤_, _<_, _+_};
 ghost use mathlib.Core.Path.{_≡_};
 ghost use Rattle.std.specs.Results.{Cases};
 ghost use Rattle.std.specs.declared.option.Option.the-variants.{Some, None};
-ghost use Rattle.plan.specs.Table.{weight-in, row-sum, column-sum, with-weight};
+ghost use Rattle.grid.specs.Flows.{with-flow};
+ghost use Rattle.plan.specs.Table.{weight-in, row-sum, column-sum};
 ghost use Rattle.plan.specs.Weights.{weight-of, refusal-of};
 use crate::fault::ShareFault;
 use crate::size::Size;
@@ -47,7 +48,7 @@ impl Plan {
 
     // Books a weight for a flow in place of the old one. A refusal leaves the plan as it was.
     pub fn share(&mut self, input: usize, output: usize, weight: u32) -> Result<(), ShareFault>
-        ensures { λ r. ⌜ Cases r (λ _. (refusal-of (now (self .entry)) input output weight ≡ None) × (now (self .exit) .size ≡ now (self .entry) .size) × (weight-of (now (self .exit)) ≡ with-weight (weight-of (now (self .entry))) input output weight)) (λ f. (refusal-of (now (self .entry)) input output weight ≡ Some f) × (now (self .exit) ≡ now (self .entry))) ⌝ }
+        ensures { λ r. ⌜ Cases r (λ _. (refusal-of (now (self .entry)) input output weight ≡ None) × (now (self .exit) .size ≡ now (self .entry) .size) × (weight-of (now (self .exit)) ≡ with-flow (weight-of (now (self .entry))) input output weight)) (λ f. (refusal-of (now (self .entry)) input output weight ≡ Some f) × (now (self .exit) ≡ now (self .entry))) ⌝ }
     {
         let n = self.size.ports;
         if input >= n || output >= n {

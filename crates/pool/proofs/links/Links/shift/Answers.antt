@@ -7,8 +7,8 @@ use borrow.Author.Needs.{needs}
 use denote.Ref.{RefT}
 use lib.ListN.{length, getD, set}
 use Rattle.std.proofs.shelf.Lists.{length-set}
-use Rattle.store.proofs.Sums.{sum-at-least}
-use Rattle.store.specs.Flows.{sum-below}
+use Rattle.grid.proofs.Sums.{sum-at-least}
+use Rattle.grid.specs.Flows.{sum-below}
 use Rattle.pool.specs.Queues.{Cells, One-queue, One-place, Ended, counts-after}
 use Rattle.pool.specs.declared.links.Links.{Links}
 use Rattle.pool.proofs.Shifts as shifts

@@ -6,7 +6,7 @@ use native.Mathlib.Omega.{arith}
 use borrow.Author.Needs.{needs}
 use Rattle.std.proofs.shelf.Ways.{tells}
 use Rattle.store.specs.declared.packet.Packet.{Packet}
-use Rattle.store.specs.Flows.{with-flow}
+use Rattle.grid.specs.Flows.{with-flow}
 use Rattle.rings.specs.Held.{packets-in, lists-in}
 use Rattle.rings.proofs.Cells.{ring-at, ring-set}
 use Rattle.rings.proofs.table.RingsStore.put.Needs as need

@@ -2,9 +2,9 @@ use Prim.Native.Nat.{ℕ}
 use lib.ListN.{length}
 use native.Mathlib.Omega.{arith}
 use Rattle.std.proofs.shelf.Ways.{tells}
-use Rattle.store.specs.Flows.{flow-in}
-use Rattle.store.proofs.Flows.{ports-inside}
-use Rattle.store.proofs.Sums.{flow-sum-at-least, flow-sum-le}
+use Rattle.grid.specs.Flows.{flow-in}
+use Rattle.grid.proofs.Flows.{ports-inside}
+use Rattle.grid.proofs.Sums.{flow-sum-at-least, flow-sum-le}
 use Rattle.rings.specs.Held.{lists-in}
 use Rattle.rings.specs.declared.ring.Ring.the-variants.{Empty}
 use Rattle.rings.proofs.Cells.{at-most-two}

@@ -1,4 +1,4 @@
-use Rattle.store.proofs.Flows.{flows-same}
+use Rattle.grid.proofs.Flows.{flows-same}
 use Rattle.store.proofs.numbered.Numbered.clear.Needs as need
 
 pub returns : need.returns

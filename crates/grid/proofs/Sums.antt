@@ -6,7 +6,16 @@ use native.Mathlib.Nat.{add-zero, add-suc}
 use native.Mathlib.Numerals.{add-one}
 use native.Mathlib.Omega.{arith}
 use Rattle.std.proofs.shelf.Tests.{cases-eq}
-use Rattle.store.specs.Flows.{sum-below, flow-sum}
+use Rattle.grid.specs.Flows.{sum-below, flow-sum}
+
+pub sum-none : (f : ℕ → ℕ) → sum-below 0 f ≡ 0
+unfolding sum-below
+sum-none f = refl
+
+pub sum-zero : (n : ℕ) → sum-below n (λ _. 0) ≡ 0
+unfolding sum-below
+sum-zero zero = refl
+sum-zero (suc n) = omega (arith, sum-zero n)
 
 pub sum-same : (n : ℕ) (f g : ℕ → ℕ) → ((k : ℕ) → k < n → f k ≡ g k) → sum-below n f ≡ sum-below n g
 unfolding sum-below

@@ -10,7 +10,7 @@ use native.Mathlib.Omega.{arith}
 use Rattle.std.proofs.shelf.Ways.{tells}
 use Rattle.std.proofs.shelf.Tests.{lt-ltb, ltb-true, eq-eqb, cases-lt, cases-eq, cond-both, and-parts}
 use Rattle.std.proofs.shelf.Lists.{getD-set-same, getD-set-other, getD-replicate, getD-past, length-replicate, getD-default}
-use Rattle.store.specs.Flows.{inside, flow-of, flow-in, with-flow}
+use Rattle.grid.specs.Flows.{inside, flow-of, flow-in, with-flow}
 
 -- the two ports of a flow that is inside
 pub ports-inside : (i j : ℕ) → inside i j ≡ true → (i < 16) × (j < 16)
