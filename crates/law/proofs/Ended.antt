@@ -10,7 +10,9 @@ use native.Mathlib.Omega.{arith}
 use Rattle.std.proofs.shelf.Tests.{leb-true, leb-false, le-leb, lt-leb, cases-bool, cond-true, cond-false}
 use Rattle.std.proofs.shelf.Ways.{tells}
 use Rattle.std.specs.Iters.{counting}
-use Rattle.std.specs.shelf.Lists.{All}
+use Rattle.std.specs.shelf.Lists.{All, sum, sumBy}
+use Rattle.std.proofs.shelf.Sums.{sum-map, sumBy-append, sumBy-cons}
+use Rattle.grid.specs.Flows.{sum-below}
 use Rattle.timing.specs.Fluid.{Accepted}
 use Rattle.law.specs.Journeys.{ended}
 
@@ -73,3 +75,14 @@ counting-parts a (suc n) m =
     let f : suc (n + m) ≡ suc n + m = omega arith in
     ap (λ (xs : List ℕ). a ∷ xs) (ap (λ (k : ℕ). counting (a + 1) n ++ counting k m) e ∙ counting-parts (a + 1) n m)
     ∙ ap (λ (k : ℕ). counting a k) f
+
+-- a sum over the first numbers, two ways
+pub sum-counting : (f : ℕ → ℕ) (n : ℕ) → sum (map f (counting 0 n)) ≡ sum-below n f
+unfolding sum-below
+sum-counting f zero = refl
+sum-counting f (suc n) =
+    let z : 0 + n ≡ n = omega arith in
+    let y : n + 1 ≡ suc n = omega arith in
+    let parts = ap (λ (k : ℕ). counting 0 n ++ counting k 1) (sym z) ∙ counting-parts 0 n 1 ∙ ap (λ (k : ℕ). counting 0 k) y in
+    let whole = sum-map f (counting 0 (suc n)) ∙ ap (sumBy f) (sym parts) ∙ sumBy-append f (counting 0 n) (counting n 1) in
+    omega (arith, whole, sum-counting f n, sum-map f (counting 0 n), sumBy-cons f n [])

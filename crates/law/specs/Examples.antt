@@ -18,7 +18,7 @@ use Rattle.std.specs.Iters.{counting, folded}
 use Rattle.tie.specs.Positions.{first-from, lowest}
 use Rattle.law.specs.Journeys.{Journeys, none-yet}
 use Rattle.law.specs.Port.{finish}
-use Rattle.law.specs.Promises.{Bookable}
+use Rattle.law.specs.Promises.{Bookable, crosspoint-limit, departure-limit}
 use Rattle.law.specs.Shares.{stamps}
 use Rattle.law.specs.Step.{Plan, Switch, sealed, sooner, after-tick}
 use Rattle.law.specs.Rules.{Rule, crossing-choice, sending-choice}
@@ -114,12 +114,12 @@ examples =
     -- 6 and 3/5 precedes 6 and 2/3
     ∷ record { computed = cond (sooner record { scaled = 33; weight = 5 } record { scaled = 20; weight = 3 }) 1 0; stated = 1 }
     -- the crosspoint limit for N 4, L 10, w 1, W 4: 32 whole bytes
-    ∷ record { computed = (2 * (4 * 10) + 1 * ((4 + 1) * 10)) / 4; stated = 32 }
+    ∷ record { computed = crosspoint-limit rush-plan 1 ((4 + 1) * 10) / 4; stated = 32 }
     -- the rush: the last packet from output 3 leaves at 77; its finish is 40 and the limit 90; 2 × L after the finish is exceeded
     ∷ record { computed = last-departure rush-plan rushed 3; stated = 77 }
     ∷ record { computed = finish-at rush-plan 0 3 (rushed .flow 0 3) 0 / 1; stated = 40 }
-    ∷ record { computed = finish-at rush-plan 0 3 (rushed .flow 0 3) 0 / 1 + (4 + 1) * 10; stated = 90 }
-    ∷ record { computed = cond (ltb (40 + 2 * 10) (last-departure rush-plan rushed 3)) 1 0; stated = 1 }
+    ∷ record { computed = departure-limit rush-plan ((4 + 1) * 10) 0 3 (rushed .flow 0 3) 0 / 1; stated = 90 }
+    ∷ record { computed = cond (ltb (departure-limit rush-plan (2 * 10) 0 3 (rushed .flow 0 3) 0 / 1) (last-departure rush-plan rushed 3)) 1 0; stated = 1 }
     -- taking turns with pointer 2: of 0 and 1 it picks 0, of 1 and 3 it picks 3
     ∷ record { computed = valueOr (first-from 2 (four-ties true true false false)) 16; stated = 0 }
     ∷ record { computed = valueOr (first-from 2 (four-ties false true false true)) 16; stated = 3 }

@@ -7,3 +7,4 @@ pub mod Runs
 pub mod Promises
 pub mod Rules
 pub mod Examples
+pub mod Plans

@@ -9,7 +9,7 @@ use Rattle.std.specs.Iters.{counting}
 use Rattle.std.specs.shelf.Lists.{countBy, kept-by, sum}
 use Rattle.std.specs.declared.option.Option.the-variants.{None}
 use Rattle.timing.specs.Fluid.{Accepted, fluid}
-use Rattle.law.specs.Journeys.{departed, started-bytes, departed-bytes, held}
+use Rattle.law.specs.Journeys.{Journeys, departed, started-bytes, departed-bytes, held}
 use Rattle.law.specs.Step.{Plan, Switch}
 use Rattle.law.specs.Runs.{Departure, Call, arrive, step, ask, Answer, granted, refused, listed, told, Did, departure, finish-at, all-inside, unlawful}
 
@@ -48,6 +48,14 @@ abbrev pub departures-of : ℕ → ℕ → List (Call × Answer) → List Depart
 departures-of i j [] = []
 departures-of i j ((call, answer) ∷ log) = departures-of i j log ++ departures-by i j answer
 
+-- the most that a crosspoint of weight w holds, in W-ths of a byte
+abbrev pub crosspoint-limit : Plan → ℕ → ℕ → ℕ
+crosspoint-limit plan w late = 2 * (plan .parts * plan .longest) + w * late
+
+-- when the k-th packet of flow (i, j) must have left, times w
+abbrev pub departure-limit : Plan → ℕ → ℕ → ℕ → Journeys → ℕ → ℕ
+departure-limit plan late i j f k = finish-at plan i j f k + plan .weight i j * late
+
 -- The promises to flow (i, j) at a moment, with departures at most `late` ticks after the virtual finish. Amounts are in
 -- W-ths of a byte, and virtual times times w.
 pub record Promises (plan : Plan) (M late : ℕ) (log : List (Call × Answer)) (s : Switch) (i j : ℕ) : Type 0 where
@@ -59,14 +67,14 @@ pub record Promises (plan : Plan) (M late : ℕ) (log : List (Call × Answer)) (
   -- the departures so far are those of the earliest accepted packets, each once, in that order
   pub departures-told : departures-of i j log ≡ map (departure plan i j (s .flow i j)) (counting 0 (departed (s .clock) (s .flow i j)))
   -- a packet departs at most `late` ticks after its virtual finish, and is not inside once the clock has reached that
-  pub on-time : (k : ℕ) → k < departed (s .clock) (s .flow i j) → plan .weight i j * departure plan i j (s .flow i j) k .tick ≤ finish-at plan i j (s .flow i j) k + plan .weight i j * late
-  pub gone : (k : ℕ) → k < length (s .flow i j .accepted) → finish-at plan i j (s .flow i j) k + plan .weight i j * late ≤ plan .weight i j * s .clock → k < departed (s .clock) (s .flow i j)
+  pub on-time : (k : ℕ) → k < departed (s .clock) (s .flow i j) → plan .weight i j * departure plan i j (s .flow i j) k .tick ≤ departure-limit plan late i j (s .flow i j) k
+  pub gone : (k : ℕ) → k < length (s .flow i j .accepted) → departure-limit plan late i j (s .flow i j) k ≤ plan .weight i j * s .clock → k < departed (s .clock) (s .flow i j)
   -- the departed bytes keep up with the fluid amount, and the bytes started across do not run ahead of it
   pub keeps-up : fluid (plan .parts) (plan .weight i j) (s .clock) 0 (s .flow i j .accepted) ≤ plan .parts * departed-bytes (s .clock) (s .flow i j) + plan .parts * plan .longest + plan .weight i j * late
   pub not-ahead : plan .parts * started-bytes (s .flow i j) ≤ fluid (plan .parts) (plan .weight i j) (s .clock) 0 (s .flow i j .accepted) + plan .parts * plan .longest
   -- the crosspoint never holds more than this
-  pub held-little : plan .parts * held (s .clock) (s .flow i j) ≤ 2 * (plan .parts * plan .longest) + plan .weight i j * late
-  pub peak-little : plan .parts * s .peak i j ≤ 2 * (plan .parts * plan .longest) + plan .weight i j * late
+  pub held-little : plan .parts * held (s .clock) (s .flow i j) ≤ crosspoint-limit plan (plan .weight i j) late
+  pub peak-little : plan .parts * s .peak i j ≤ crosspoint-limit plan (plan .weight i j) late
 
 -- a plan that can be booked: at most 16 ports, some longest packet, and each row and each column of weights sums to at most W
 pub record Bookable (plan : Plan) : Type 0 where

@@ -1,10 +1,13 @@
 // The law of the schedule: what a port of the switch does, and by when it is done. There is nothing to compute: each
 // contract is a theorem.
+ghost use mathlib.Core.Path.{_≡_};
 ghost use Rattle.law.specs.Examples.{A-run, Examples-hold};
 ghost use Rattle.law.specs.Port.{Port-stays-sound};
-ghost use Rattle.law.specs.Promises.{Runs-keep-promises};
+ghost use Rattle.law.specs.Plans.{plan-of};
+ghost use Rattle.law.specs.Promises.{Bookable, Runs-keep-promises};
 ghost use Rattle.law.specs.Rules.{Rules-make-steps};
 ghost use Rattle.law.specs.Shares.{Flow-keeps-its-share};
+use plan::Plan;
 
 // A port is on time at every moment of every run.
 pub fn port_stands() -> u8
@@ -46,4 +49,12 @@ pub fn a_run_stands() -> u8
     ensures { λ _. ⌜ A-run ⌝ }
 {
     0
+}
+
+// Every plan of the kit is one that the promises are made for.
+pub fn plan_stands(plan: &Plan) -> usize
+    ensures ports { λ r. ⌜ r ≡ plan-of (now (plan .entry)) .ports ⌝ }
+    ensures bookable { λ _. ⌜ Bookable (plan-of (now (plan .entry))) ⌝ }
+{
+    plan.size.ports
 }
