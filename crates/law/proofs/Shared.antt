@@ -65,10 +65,6 @@ module _ (W w : ℕ) where
       ap (drop k) (stamps-push ps 0 q) ∙ drop-append-le k (stamps W w 0 ps) (stamp w (last-finish W w 0 ps) q ∷ []) within in
       λ i. record { weight = w; waiting = waits i; last = last-finish-push W w ps 0 q i }
 
-  -- the port takes the next of its packets
-  pub seen-takes : (ps : List Accepted) (k : ℕ) (d : Queued) → k < length ps → seen W w ps k .waiting ≡ getD (stamps W w 0 ps) k d ∷ seen W w ps (k + 1) .waiting
-  seen-takes ps k d h = drop-more (stamps W w 0 ps) k d (rw stamps-length h)
-
 -- A packet that an output finds not ready at tick t.
 module _ (W L w t : ℕ) (a : Queued) where
   -- its virtual start was less than L ticks ago
@@ -87,16 +83,6 @@ module _ (W L w t : ℕ) (a : Queued) where
 pub waiting-inside : (c W w t l : ℕ) (a : Queued) → Within c w (finish W a) (t + l + a .bytes) → w * t ≤ finish W a + w * c
 waiting-inside c W w t l a h = omega arith
 
-pub sending-inside : (c w f t e : ℕ) → t ≤ e → Within c w f e → w * t ≤ f + w * c
-sending-inside c w f t e l h = omega (arith, mul-le-mul-left w l)
-
 -- and is gone once the clock has reached it
 pub waiting-gone : (c W w t l : ℕ) (a : Queued) → 0 < w → 0 < a .bytes → finish W a + w * c ≤ w * t → Within c w (finish W a) (t + l + a .bytes) → ⊥
 waiting-gone c W w t l a o b h k = omega (arith, mul-le-mul o b)
-
-pub sending-gone : (c w f t e : ℕ) → 0 < w → t < e → f + w * c ≤ w * t → Within c w f e → ⊥
-sending-gone c w f t e o l h k = omega (arith, mul-lt-mul-of-pos-left l o)
-
--- a longer lateness serves too
-pub within-later : (c c′ w f e : ℕ) → c ≤ c′ → Within c w f e → Within c′ w f e
-within-later c c′ w f e h k = omega (arith, mul-le-mul-left w h)

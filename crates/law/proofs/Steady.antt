@@ -35,10 +35,6 @@ head-of-all : (P : Queued → Type 0) (ps : List Queued) → All P ps → Head P
 head-of-all P [] all = tt
 head-of-all P (a ∷ ps) all = all .0
 
-head-weaker : (P Q : Queued → Type 0) → ((a : Queued) → P a → Q a) → (ps : List Queued) → Head P ps → Head Q ps
-head-weaker P Q f [] h = tt
-head-weaker P Q f (a ∷ ps) h = f a h
-
 module _ (W L w c t l : ℕ) (f : Journeys) (s : Steady W L w c t f)
     (waits : All (λ a. Within c w (finish W a) (t + l + a .bytes)) (drop (length (f .sendings)) (stamps W w 0 (f .accepted)))) where
   -- the oldest packet inside

@@ -16,17 +16,22 @@ pub struct Plain {
 }
 
 impl Plain {
-    pub fn new(heap: Global) -> Plain {
+    pub(crate) fn new(heap: Global) -> Plain {
         Plain {
             waiting: Vec::new(heap),
         }
     }
 
-    pub fn clear(&mut self) {
+    pub(crate) fn clear(&mut self) {
         self.waiting.clear();
     }
 
-    pub fn put(&mut self, input: usize, output: usize, packet: Packet) -> Result<(), AllocError> {
+    pub(crate) fn put(
+        &mut self,
+        input: usize,
+        output: usize,
+        packet: Packet,
+    ) -> Result<(), AllocError> {
         self.waiting
             .push(Waiting {
                 input,
@@ -50,13 +55,13 @@ impl Plain {
         None
     }
 
-    pub fn look(&self, input: usize, output: usize, k: usize) -> Option<Packet> {
+    pub(crate) fn look(&self, input: usize, output: usize, k: usize) -> Option<Packet> {
         let n = self.place(input, output, k)?;
         let w = self.waiting.get(n)?;
         Some(w.packet)
     }
 
-    pub fn note(&mut self, input: usize, output: usize, k: usize, tick: u64) -> bool {
+    pub(crate) fn note(&mut self, input: usize, output: usize, k: usize, tick: u64) -> bool {
         let Some(n) = self.place(input, output, k) else {
             return false;
         };
@@ -71,7 +76,7 @@ impl Plain {
         true
     }
 
-    pub fn remove(&mut self, input: usize, output: usize) -> bool {
+    pub(crate) fn remove(&mut self, input: usize, output: usize) -> bool {
         let Some(n) = self.place(input, output, 0) else {
             return false;
         };
@@ -82,7 +87,7 @@ impl Plain {
         true
     }
 
-    pub fn count(&self, input: usize, output: usize) -> usize {
+    pub(crate) fn count(&self, input: usize, output: usize) -> usize {
         let mut count: usize = 0;
         for w in self.waiting.iter() {
             if w.input == input && w.output == output {
@@ -92,7 +97,7 @@ impl Plain {
         count
     }
 
-    pub fn total(&self) -> usize {
+    pub(crate) fn total(&self) -> usize {
         self.waiting.len()
     }
 }

@@ -98,7 +98,11 @@ fn step<S: Store>(
 }
 
 // Whether a store agrees with a plain list over a sequence of calls, then over as many again after a clear.
-pub fn agrees<S: Store>(store: &mut S, plain: &mut Plain, calls: u64) -> Result<bool, AllocError> {
+pub(crate) fn agrees<S: Store>(
+    store: &mut S,
+    plain: &mut Plain,
+    calls: u64,
+) -> Result<bool, AllocError> {
     let mut seed = 1;
     let mut all = true;
     for _ in 0..2 {

@@ -9,7 +9,7 @@ use store::Numbered;
 use store::Store;
 use timing::Stamp;
 
-pub fn incoming() -> Option<Incoming> {
+pub(crate) fn incoming() -> Option<Incoming> {
     let start = Stamp::at(0, 1)?;
     Some(Incoming {
         arrival: 0,
@@ -35,7 +35,7 @@ fn pass<S: Store>(numbered: &mut Numbered<S>, incoming: Incoming) -> Option<u64>
 }
 
 // Whether the serials of a flow count up from 0, and again after a clear.
-pub fn counts_up<S: Store>(store: S, incoming: Incoming) -> bool
+pub(crate) fn counts_up<S: Store>(store: S, incoming: Incoming) -> bool
 where
     S: Drop,
 {

@@ -1,4 +1,3 @@
-pub mod Examples
 pub mod Longests
 pub mod Picked
 pub mod Rounds

@@ -1,8 +1,6 @@
 -- A weight and a scaled value determine the stamp.
-use mathlib.Core.HLevel.{isProp→PathP}
 use mathlib.Core.Path.{_≡_, sym, ap, subst, _∙_}
 use Prim.Native.Nat.{ℕ, _+_, _*_, _/_, _%_, _^_, _≤_, _<_}
-use native.Mathlib.Bridge.{le-prop}
 use native.Mathlib.Nat.{div-add-mod, div-le-self, mod-lt, mul-comm, mul-le-mul-left}
 use native.Mathlib.Omega.{arith}
 use lib.Arith.{digits-div, digits-mod}
@@ -26,19 +24,6 @@ stands s w v p q =
     let t = tick-of s in
     let n = numerator-of s in
     record { same-weight = p; same-scaled = q; same-tick = cc; same-numerator = cc }
-
-same-fields : (s r : Stamp) → s .tick ≡ r .tick → s .numerator ≡ r .numerator → s .weight ≡ r .weight → s ≡ r
-same-fields s r t n w = λ j. record {
-  tick = t j;
-  numerator = n j;
-  weight = w j;
-  below = isProp→PathP (λ k. n k < w k) (λ k. le-prop) (s .below) (r .below) j;
-}
-
-pub same-stamp : (s r : Stamp) → s .weight ≡ r .weight → scaled s ≡ scaled r → s ≡ r
-same-stamp s r p q =
-    let h = stands s (r .weight) (scaled r) p q in
-    same-fields s r (h .same-tick ∙ sym (tick-of r)) (h .same-numerator ∙ sym (numerator-of r)) p
 
 -- an arrival after the last finish is the start
 pub starts-anew : (f : Stamp) (w a : ℕ) → f .weight ≡ w → f .tick < a → w * a ≡ scaled-start w a (scaled f)

@@ -1,10 +1,10 @@
--- The fluid amount in closed form, its bound, and how it grows by a packet.
+-- The last finish after one packet more, the fluid amount in closed form, and its bound.
 use mathlib.Core.List.{List, [], _∷_, _++_}
 use mathlib.Core.Path.{_≡_, refl}
-use Prim.Native.Nat.{ℕ, _+_, _-_, _*_, _≤_, max}
+use Prim.Native.Nat.{ℕ, _+_, _-_, _*_, _≤_}
 use native.Mathlib.Nat.{mul-le-mul-left}
 use native.Mathlib.Omega.{arith}
-use Rattle.timing.specs.Fluid.{Accepted, Arrived, accepted-bytes, fluid, last-finish, packet-fluid}
+use Rattle.timing.specs.Fluid.{Accepted, Arrived, accepted-bytes, fluid, last-finish}
 use Rattle.timing.specs.Stamps.{scaled-finish, scaled-start}
 
 module _ (W w : ℕ) where
@@ -26,17 +26,3 @@ module _ (W w t : ℕ) where
   fluid-le (p ∷ ps) f =
       let rest = fluid-le ps (scaled-finish W (scaled-start w (p .arrival) f) (p .bytes)) in
       omega arith
-
-  pub last-finish-le : (ps : List Accepted) (f : ℕ) → Arrived t ps → last-finish W w f ps ≤ max (w * t) f + W * accepted-bytes ps
-  last-finish-le [] f h = omega arith
-  last-finish-le (p ∷ ps) f h =
-      let rest = last-finish-le ps (scaled-finish W (scaled-start w (p .arrival) f) (p .bytes)) (h .1) in
-      omega (arith, mul-le-mul-left w (h .0))
-
-  pub fluid-push : (ps : List Accepted) (f : ℕ) (q : Accepted) → fluid W w t f (ps ++ q ∷ []) ≡ fluid W w t f ps + packet-fluid W w t (scaled-start w (q .arrival) (last-finish W w f ps)) (q .bytes)
-  fluid-push [] f q = omega arith
-  fluid-push (p ∷ ps) f q = omega (arith, fluid-push ps (scaled-finish W (scaled-start w (p .arrival) f) (p .bytes)) q)
-
-pub accepted-bytes-push : (ps : List Accepted) (q : Accepted) → accepted-bytes (ps ++ q ∷ []) ≡ accepted-bytes ps + q .bytes
-accepted-bytes-push [] q = omega arith
-accepted-bytes-push (p ∷ ps) q = omega (arith, accepted-bytes-push ps q)
