@@ -54,11 +54,11 @@ after-ticks zero plan rule s = s
 after-ticks (suc k) plan rule s = after-ticks k plan rule (tick-by plan rule s)
 
 -- four ports, all weights 1 of 4: at tick 0 each input gets 9 bytes for outputs 0, 1 and 2, and 10 for output 3
-abbrev pub rush-plan : Plan
-rush-plan = record { ports = 4; longest = 10; parts = 4; weight = λ _ _. 1 }
+abbrev pub burst-plan : Plan
+burst-plan = record { ports = 4; longest = 10; parts = 4; weight = λ _ _. 1 }
 
-abbrev pub rush : Switch
-rush = written 4 (folded (λ s i. arrived (arrived (arrived (arrived s i 0 9) i 1 9) i 2 9) i 3 10) sealed (counting 0 4))
+abbrev pub burst : Switch
+burst = written 4 (folded (λ s i. arrived (arrived (arrived (arrived s i 0 9) i 1 9) i 2 9) i 3 10) sealed (counting 0 4))
 
 -- the last departure from output j, of the first packets of its flows
 abbrev pub last-departure : Plan → Switch → ℕ → ℕ
@@ -89,8 +89,8 @@ number-of (Some f) = share-number f
 abbrev pub second-share : ℕ → ℕ
 second-share w = number-of (share-refusal 2 4 (with-flow (λ _ _. 0) 0 0 2) 0 1 w)
 
-abbrev pub rushed : Switch
-rushed = after-ticks 78 rush-plan lowest-rule rush
+abbrev pub burst-sent : Switch
+burst-sent = after-ticks 78 burst-plan lowest-rule burst
 
 -- what is computed, and what it must be
 pub record Example : Type 0 where
@@ -114,12 +114,12 @@ examples =
     -- 6 and 3/5 precedes 6 and 2/3
     ∷ record { computed = cond (sooner record { scaled = 33; weight = 5 } record { scaled = 20; weight = 3 }) 1 0; stated = 1 }
     -- the crosspoint limit for N 4, L 10, w 1, W 4: 32 whole bytes
-    ∷ record { computed = crosspoint-limit rush-plan 1 ((4 + 1) * 10) / 4; stated = 32 }
-    -- the rush: the last packet from output 3 leaves at 77; its finish is 40 and the limit 90; 2 × L after the finish is exceeded
-    ∷ record { computed = last-departure rush-plan rushed 3; stated = 77 }
-    ∷ record { computed = finish-at rush-plan 0 3 (rushed .flow 0 3) 0 / 1; stated = 40 }
-    ∷ record { computed = departure-limit rush-plan ((4 + 1) * 10) 0 3 (rushed .flow 0 3) 0 / 1; stated = 90 }
-    ∷ record { computed = cond (ltb (departure-limit rush-plan (2 * 10) 0 3 (rushed .flow 0 3) 0 / 1) (last-departure rush-plan rushed 3)) 1 0; stated = 1 }
+    ∷ record { computed = crosspoint-limit burst-plan 1 ((4 + 1) * 10) / 4; stated = 32 }
+    -- the burst: the last packet from output 3 leaves at 77; its finish is 40 and the limit 90; 2 × L after the finish is exceeded
+    ∷ record { computed = last-departure burst-plan burst-sent 3; stated = 77 }
+    ∷ record { computed = finish-at burst-plan 0 3 (burst-sent .flow 0 3) 0 / 1; stated = 40 }
+    ∷ record { computed = departure-limit burst-plan ((4 + 1) * 10) 0 3 (burst-sent .flow 0 3) 0 / 1; stated = 90 }
+    ∷ record { computed = cond (ltb (departure-limit burst-plan (2 * 10) 0 3 (burst-sent .flow 0 3) 0 / 1) (last-departure burst-plan burst-sent 3)) 1 0; stated = 1 }
     -- taking turns with pointer 2: of 0 and 1 it picks 0, of 1 and 3 it picks 3
     ∷ record { computed = valueOr (first-from 2 (four-ties true true false false)) 16; stated = 0 }
     ∷ record { computed = valueOr (first-from 2 (four-ties false true false true)) 16; stated = 3 }

@@ -1,13 +1,20 @@
 // The law of the schedule: what a port of the switch does, and by when it is done. There is nothing to compute: each
 // contract is a theorem.
+ghost use Prim.Native.Nat.{ℕ, _≤_, _<_};
+ghost use mathlib.Core.Bool.{Bool, true, false};
+ghost use mathlib.Core.List.{List};
 ghost use mathlib.Core.Path.{_≡_};
 ghost use Rattle.law.specs.Examples.{A-run, Examples-hold};
 ghost use Rattle.law.specs.Port.{Port-stays-sound};
 ghost use Rattle.law.specs.Plans.{plan-of};
 ghost use Rattle.law.specs.Promises.{Bookable, Runs-keep-promises};
-ghost use Rattle.law.specs.Rules.{Rules-make-steps};
+ghost use Rattle.law.specs.Rules.{Fair, Rules-make-steps};
 ghost use Rattle.law.specs.Shares.{Flow-keeps-its-share};
+ghost use Rattle.grid.specs.Flows.{inside};
+ghost use Rattle.store.specs.Stored.{stored};
 use plan::Plan;
+use store::Store;
+use tie::TieRule;
 
 // A port is on time at every moment of every run.
 pub fn port_stands() -> u8
@@ -57,4 +64,20 @@ pub fn plan_stands(plan: &Plan) -> usize
     ensures bookable { λ _. ⌜ Bookable (plan-of (now (plan .entry))) ⌝ }
 {
     plan.size.ports
+}
+
+// Whatever a tie rule keeps, its answers are those that a step may take.
+pub fn rule_stands<R: TieRule>(rule: &R) -> u8
+    ensures { λ _. ⌜ Fair (λ code ties waiting. R·TieRule .answer (now (rule .entry)) code ties waiting) ⌝ }
+{
+    0
+}
+
+// A store shows a full sign only where a run allows it, and takes a packet only where a run does.
+pub fn store_stands<S: Store>(store: &S) -> usize
+    ensures size { λ r. ⌜ r ≡ S·Store .size (now (store .entry)) ⌝ }
+    ensures full { λ _. ⌜ ((i j : ℕ) → inside i j ≡ true → S·Store .full (now (store .entry)) i j ≡ true → S·Store .size (now (store .entry)) ≤ stored (S·Store .lists (now (store .entry)))) ⌝ }
+    ensures taken { λ _. ⌜ ((i j : ℕ) → S·Store .full (now (store .entry)) i j ≡ false → stored (S·Store .lists (now (store .entry))) < 65536) ⌝ }
+{
+    store.stated_size()
 }
