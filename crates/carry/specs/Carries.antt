@@ -5,10 +5,8 @@ use mathlib.Core.Path.{_≡_}
 use lib.ListN.{length}
 use Rattle.std.specs.declared.result.Result.{Result}
 use Rattle.std.specs.declared.result.Result.the-variants.{Ok, Err}
-use Rattle.plan.specs.declared.table.Plan.{Plan}
-use Rattle.runfile.specs.Order.{Item}
 use Rattle.runfile.specs.File.{Outcome, complete, refused, Comes}
-use Rattle.carry.specs.Booked.{plan-refuses, Quiet, Refuses, Ends, Arrives}
+use Rattle.carry.specs.Booked.{plan-refuses, Quiet, Refuses, Arrives}
 use Rattle.carry.specs.Lists.{listing}
 use Rattle.carry.specs.declared.run.CarryError.{CarryError}
 use Rattle.carry.specs.declared.run.CarryError.the-variants.{Memory, Arrival}

@@ -2,12 +2,9 @@
 ghost use Prim.Native.Nat.{ℕ, _-_};
 ghost use mathlib.Core.Path.{_≡_};
 ghost use mathlib.Core.List.{List, [], _∷_};
-ghost use lib.ListN.{length};
 ghost use Rattle.std.specs.Results.{Cases};
 ghost use Rattle.std.specs.Options.{mapped};
 ghost use Rattle.std.specs.declared.option.Option.the-variants.{Some, None};
-ghost use Rattle.grid.specs.Flows.{with-flow};
-ghost use Rattle.plan.specs.Weights.{weight-of, refusal-of};
 ghost use Rattle.runfile.specs.Order.{Item, Booking as Open, Running};
 ghost use Rattle.runfile.specs.Order as order;
 ghost use Rattle.runfile.specs.File.{phase-of};

@@ -1,14 +1,14 @@
 -- Packets of a flow against the ticks of their starts. Assumes nothing.
-use mathlib.Core.Bool.{Bool, true, false, cond}
+use mathlib.Core.Bool.{true, false}
 use mathlib.Core.List.{List, [], _∷_, _++_}
 use mathlib.Core.Logic.{_⊎_, ⊎-elim}
-use mathlib.Core.Path.{_≡_, refl, sym, ap, subst, _∙_}
+use mathlib.Core.Path.{_≡_, refl, sym, ap}
 use Prim.Native.Nat.{ℕ, zero, suc, _+_, _-_, _*_, _≤_, _<_}
 use lib.Dec.{leb}
 use lib.ListN.{length, getD, take, drop}
 use native.Mathlib.Nat.{mul-le-mul-left, mul-lt-mul-of-pos-left}
 use native.Mathlib.Omega.{arith}
-use Rattle.std.proofs.shelf.Tests.{leb-true, leb-false, le-leb, lt-leb, cases-bool, cases-lt}
+use Rattle.std.proofs.shelf.Tests.{leb-false, le-leb, cases-bool, cases-lt}
 use Rattle.std.specs.shelf.Lists.{All}
 use Rattle.timing.specs.Fluid.{Accepted}
 use Rattle.law.specs.Port.{Queued, Head, Within, finish}

@@ -7,7 +7,6 @@ use lib.ListN.{length, getD}
 use native.Mathlib.Omega.{arith}
 use Rattle.std.proofs.shelf.Elements.{all-push}
 use Rattle.std.proofs.shelf.Lists.{append-nil, getD-append-left, length-push, map-append}
-use Rattle.std.proofs.shelf.Tests.{both-ways}
 use Rattle.std.specs.Iters.{counting}
 use Rattle.std.specs.shelf.Lists.{All}
 use Rattle.timing.specs.Fluid.{Accepted}

@@ -1,32 +1,30 @@
 -- What every moment of every run keeps. Assumes nothing.
 use mathlib.Core.Bool.{Bool, true, false, cond, _&&_}
 use mathlib.Core.List.{List, [], _∷_, _++_, map}
-use mathlib.Core.Logic.{_⊎_, inl, inr, ⊎-elim}
+use mathlib.Core.Logic.{_⊎_, ⊎-elim}
 use mathlib.Core.Path.{_≡_, refl, sym, ap, subst, _∙_}
-use Prim.Native.Nat.{ℕ, zero, suc, _+_, _-_, _*_, _≤_, _<_, max}
-use lib.Dec.{eqb, leb, ltb}
-use lib.ListN.{length, getD, take, drop}
+use Prim.Native.Nat.{ℕ, _+_, _-_, _*_, _≤_, _<_, max}
+use lib.Dec.{eqb}
+use lib.ListN.{length, drop}
 use native.Mathlib.Omega.{arith}
 use Rattle.std.proofs.shelf.Counted.{getD-map-counting, length-map-counting}
 use Rattle.std.proofs.shelf.Elements.{all-push, all-drop}
 use Rattle.std.proofs.shelf.Lists.{append-nil, length-push, length-drop}
 use Rattle.std.proofs.shelf.Sums.{getD-le-sumBy}
-use Rattle.std.proofs.shelf.Tests.{leb-true, leb-false, eqb-true, eq-eqb, ne-eqb, cases-eq, cases-bool, cases-lt, both-ways, and-parts, and-left, and-right}
+use Rattle.std.proofs.shelf.Tests.{leb-true, leb-false, eqb-true, eq-eqb, ne-eqb, cases-eq, cases-lt, both-ways, and-parts, and-left, and-right}
 use Rattle.std.specs.Iters.{counting}
-use Rattle.std.specs.shelf.Lists.{All, sum, kept-by}
+use Rattle.std.specs.shelf.Lists.{All}
 use Rattle.std.specs.declared.option.Option.{Option}
-use Rattle.std.specs.declared.option.Option.the-variants.{Some, None}
 use Rattle.timing.specs.Fluid.{Accepted}
-use Rattle.law.specs.Port.{Queued, Head, Side, Unready, Within, finish, lateness, open-count}
+use Rattle.law.specs.Port.{Queued, Head, Side, Unready, Within, finish, open-count}
 use Rattle.law.proofs.Claims.{Sound}
 use Rattle.law.specs.Shares.{stamps, bytes-of}
 use Rattle.law.proofs.Line as line
 use Rattle.law.proofs.Line.{Along}
-use Rattle.law.specs.Journeys.{ended, Journeys, departed, started-bytes, departed-bytes, held}
+use Rattle.law.specs.Journeys.{ended, Journeys, departed, held}
 use Rattle.law.specs.Step.{Plan, Switch, sealed, at-input, at-output, ready-across, ready-out, has-crossed, Starts, names, noted, busy-until, started-flow, after-tick}
-use Rattle.law.specs.Runs.{Departure, Call, arrive, step, Answer, granted, listed, arrived, leaves, flow-leaves, unlawful}
-use Rattle.law.specs.Promises.{clock-of, accepted-of, departures-of, of-flow, Bookable, open-into}
-use Rattle.law.proofs.Ended.{ended-le-starts}
+use Rattle.law.specs.Runs.{Departure, Call, arrive, step, Answer, granted, listed, arrived, leaves}
+use Rattle.law.specs.Promises.{clock-of, accepted-of, departures-of, Bookable, open-into}
 use Rattle.law.proofs.Fronts.{along-weaker, along-length, along-more, stamps-bytes}
 use Rattle.law.proofs.Journal.{Told, told-arrives, told-tick, ended-noted}
 use Rattle.law.proofs.Lawful.{Lawful}

@@ -8,10 +8,9 @@ use lib.Dec.{eqb}
 use native.Mathlib.Omega.{arith}
 use Rattle.std.proofs.shelf.Elements.{kept-by-append}
 use Rattle.std.proofs.shelf.Lists.{append-nil}
-use Rattle.std.proofs.shelf.Tests.{eqb-true, cases-eq, eq-eqb, ne-eqb, cases-bool, and-right}
+use Rattle.std.proofs.shelf.Tests.{cases-eq, eq-eqb, ne-eqb, and-right}
 use Rattle.std.specs.Iters.{counting}
 use Rattle.std.specs.shelf.Lists.{joined, kept-by}
-use Rattle.law.specs.Journeys.{departed}
 use Rattle.law.specs.Step.{Plan, Switch}
 use Rattle.law.specs.Runs.{Departure, departure, flow-leaves, leaves}
 use Rattle.law.specs.Promises.{of-flow}

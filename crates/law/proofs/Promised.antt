@@ -2,7 +2,7 @@
 use mathlib.Core.List.{List, [], _∷_, _++_, map}
 use mathlib.Core.Logic.{_⊎_, inl, inr, ⊎-elim}
 use mathlib.Core.Path.{_≡_, refl, sym, ap, subst, _∙_}
-use Prim.Native.Nat.{ℕ, zero, suc, _+_, _-_, _*_, _≤_, _<_}
+use Prim.Native.Nat.{ℕ, _+_, _-_, _*_, _≤_, _<_}
 use lib.Dec.{ltb}
 use lib.ListN.{length, getD}
 use native.Mathlib.Nat.{mul-le-mul-left, mul-le-mul-right}
@@ -10,16 +10,15 @@ use native.Mathlib.Omega.{arith}
 use Rattle.std.proofs.shelf.Counted.{length-map-counting}
 use Rattle.std.proofs.shelf.Sums.{sum-map, countBy-le-length}
 use Rattle.std.specs.Iters.{counting}
-use Rattle.std.specs.shelf.Lists.{sum, sumBy, countBy}
-use Rattle.std.specs.declared.option.Option.{Option}
-use Rattle.std.specs.declared.option.Option.the-variants.{Some, None}
+use Rattle.std.specs.shelf.Lists.{sum, sumBy}
+use Rattle.std.specs.declared.option.Option.the-variants.{None}
 use Rattle.timing.specs.Fluid.{Accepted}
-use Rattle.law.specs.Port.{Queued, Within, finish}
+use Rattle.law.specs.Port.{Within, finish}
 use Rattle.law.specs.Shares.{stamps, bytes-of}
 use Rattle.law.proofs.Line.{Along}
-use Rattle.law.specs.Journeys.{Journeys, departed, inside}
+use Rattle.law.specs.Journeys.{departed, inside}
 use Rattle.law.specs.Step.{Plan, Switch}
-use Rattle.law.specs.Runs.{Departure, departure, finish-at, no-packet, no-stamp, Call, arrive, step, ask, Answer, granted, Did, at-seal, accepts, is-full, is-unlawful, ticks, no-tick, asks, no-ask, all-inside, unlawful}
+use Rattle.law.specs.Runs.{Departure, departure, no-packet, Call, arrive, step, ask, Answer, granted, Did, at-seal, accepts, is-full, is-unlawful, ticks, no-tick, asks, no-ask, all-inside, unlawful}
 use Rattle.law.specs.Promises.{clock-of, accepted-of, departures-of, Promises, Bookable, open-into, Runs-keep-promises}
 use Rattle.law.proofs.Ended.{ended-le-starts}
 use Rattle.law.proofs.Fronts.{along-at, stamp-at-bytes}

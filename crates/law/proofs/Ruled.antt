@@ -1,5 +1,5 @@
 -- A rule's answers are starts of a step. Assumes nothing.
-use mathlib.Core.Bool.{Bool, true, false, cond}
+use mathlib.Core.Bool.{Bool, true, false}
 use mathlib.Core.List.{List, [], _∷_, map}
 use mathlib.Core.Logic.{_⊎_, inl, inr, ⊎-elim}
 use mathlib.Core.Path.{_≡_, refl, sym, ap, subst, _∙_}
@@ -20,9 +20,8 @@ use Rattle.timing.specs.Fluid.{Accepted}
 use Rattle.timing.specs.Marks.{First, tied}
 use Rattle.law.specs.Port.{Queued, finish}
 use Rattle.law.specs.Shares.{stamps}
-use Rattle.law.specs.Step.{Plan, Switch, Deadline, sooner, mark-of, Chosen, Line-starts, input-mark, output-mark, Starts}
-use Rattle.law.specs.Rules.{Rule, Fair, asked, crossing-choice, sending-choice, bytes-at-input, bytes-at-output, Rules-make-steps}
-use Rattle.law.proofs.Moments.{Moment}
+use Rattle.law.specs.Step.{Deadline, sooner, mark-of, Chosen, Line-starts, input-mark, output-mark}
+use Rattle.law.specs.Rules.{Rule, Fair, asked, bytes-at-input, bytes-at-output, Rules-make-steps}
 use Rattle.law.proofs.Promised.{moment}
 use Rattle.law.proofs.Shared.{stamps-length}
 use Rattle.law.proofs.Views.{all-map-counting}

@@ -1,17 +1,17 @@
 -- A flow's bytes and its fluid amount; a flow as its ports see it. Assumes nothing.
 use mathlib.Core.List.{List, [], _∷_, _++_}
-use mathlib.Core.Logic.{_⊎_, inl, inr, ⊎-elim}
+use mathlib.Core.Logic.{_⊎_, ⊎-elim}
 use mathlib.Core.Path.{_≡_, refl, ap, _∙_}
-use Prim.Native.Nat.{ℕ, zero, suc, _+_, _-_, _*_, _≤_, _<_, max, min}
-use lib.ListN.{length, getD, take, drop}
-use native.Mathlib.Nat.{mul-le-mul-left, mul-le-mul-right, mul-le-mul, mul-lt-mul-of-pos-left}
+use Prim.Native.Nat.{ℕ, zero, suc, _+_, _-_, _*_, _≤_, _<_}
+use lib.ListN.{length, take, drop}
+use native.Mathlib.Nat.{mul-le-mul-left, mul-le-mul-right, mul-le-mul}
 use native.Mathlib.Omega.{arith}
 use Rattle.std.specs.shelf.Lists.{All}
-use Rattle.std.proofs.shelf.Lists.{drop-append-le, drop-more}
+use Rattle.std.proofs.shelf.Lists.{drop-append-le}
 use Rattle.std.proofs.shelf.Tests.{cases-lt}
-use Rattle.timing.specs.Fluid.{Accepted, accepted-bytes, fluid, last-finish}
+use Rattle.timing.specs.Fluid.{Accepted, fluid, last-finish}
 use Rattle.timing.proofs.Served.{fluid-le, last-finish-push}
-use Rattle.law.specs.Port.{Queued, Flow, Side, Head, Unready, Within, finish, accepting}
+use Rattle.law.specs.Port.{Queued, Side, Head, Unready, Within, finish, accepting}
 use Rattle.law.specs.Shares.{Served, Share-kept, stamp, stamps, seen, bytes-of}
 
 module _ (W L w t : ℕ) where

@@ -1,25 +1,24 @@
 -- What every moment of a run keeps of a flow, and what follows for it. Assumes nothing.
-use mathlib.Core.Bool.{Bool, true, false, cond, _&&_}
-use mathlib.Core.List.{List, [], _∷_, _++_, map}
+use mathlib.Core.Bool.{false}
+use mathlib.Core.List.{List, [], _∷_}
 use mathlib.Core.Logic.{_⊎_, ⊎-elim}
-use mathlib.Core.Path.{_≡_, refl, sym, ap, subst, _∙_}
-use Prim.Native.Nat.{ℕ, zero, suc, _+_, _-_, _*_, _≤_, _<_, max}
+use mathlib.Core.Path.{_≡_, refl, ap, subst, _∙_}
+use Prim.Native.Nat.{ℕ, _+_, _-_, _*_, _≤_, _<_}
 use lib.Dec.{leb}
-use lib.ListN.{length, getD, take, drop}
+use lib.ListN.{length, getD, drop}
 use native.Mathlib.Nat.{mul-le-mul-left}
 use native.Mathlib.Omega.{arith}
 use Rattle.std.proofs.shelf.Elements.{all-getD, all-weaker, all-drop}
 use Rattle.std.proofs.shelf.Lists.{getD-drop, length-drop}
-use Rattle.std.proofs.shelf.Tests.{leb-true, leb-false, cases-bool, cases-lt, and-cases}
+use Rattle.std.proofs.shelf.Tests.{leb-false, cases-lt, and-cases}
 use Rattle.std.specs.shelf.Lists.{All}
-use Rattle.timing.specs.Fluid.{Accepted, accepted-bytes, fluid}
 use Rattle.law.specs.Port.{Queued, Head, Side, Unready, Within, finish}
-use Rattle.law.specs.Shares.{Served, Share-kept, stamps, bytes-of}
+use Rattle.law.specs.Shares.{Served, Share-kept, stamps}
 use Rattle.law.proofs.Line.{Along}
-use Rattle.law.specs.Journeys.{Journeys, departed, started-bytes, departed-bytes, held}
-use Rattle.law.specs.Step.{has-crossed, ready-out}
+use Rattle.law.specs.Journeys.{Journeys, departed}
+use Rattle.law.specs.Step.{ready-out}
 use Rattle.law.specs.Runs.{no-stamp}
-use Rattle.law.proofs.Fronts.{along-weaker, along-drop, along-take, along-length, front-gone, first-inside, stamps-bytes}
+use Rattle.law.proofs.Fronts.{along-drop, along-take, front-gone, first-inside, stamps-bytes}
 use Rattle.law.proofs.Shared.{share-kept, stamps-length, young-unready, crossing-unready, waiting-unready, waiting-inside, waiting-gone}
 
 -- a flow of weight w on lines of W parts at tick t: each start is on time, c ticks for departures

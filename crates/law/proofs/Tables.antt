@@ -1,20 +1,18 @@
 -- The worked examples, and a run, by computing. Assumes nothing.
-use mathlib.Core.Bool.{Bool, true, false}
-use mathlib.Core.List.{List, [], _∷_}
-use mathlib.Core.Path.{_≡_, refl}
-use Prim.Native.Nat.{ℕ, _<_}
+use mathlib.Core.List.{[], _∷_}
+use mathlib.Core.Path.{refl}
+use Prim.Native.Nat.{_<_}
 use lib.Dec.{lit<, lit≤}
-use native.Mathlib.Omega.{arith}
 use Rattle.std.proofs.shelf.Results.{cases-at-some, cases-at-none}
 use Rattle.grid.specs.Flows.{sum-below}
 use Rattle.tie.proofs.Rounds.{lowest-law}
-use Rattle.tie.specs.Positions.{first-round, lowest, Untied, Lowest-tied}
+use Rattle.tie.specs.Positions.{first-round, Untied, Lowest-tied}
 use Rattle.law.specs.Journeys.{ended}
 use Rattle.law.specs.Promises.{Bookable}
 use Rattle.law.specs.Step.{Switch, sealed, after-tick}
 use Rattle.law.specs.Rules.{Fair, crossing-choice, sending-choice}
 use Rattle.law.specs.Runs.{arrive, granted, Did, at-seal, accepts, is-unlawful, ticks, arrived}
-use Rattle.law.specs.Examples.{after-ticks, lowest-rule, Examples-hold, small-plan, small-log, A-run}
+use Rattle.law.specs.Examples.{after-ticks, lowest-rule, Examples-hold, small-plan, A-run}
 use Rattle.law.proofs.Ruled.{rules-make-steps}
 
 pub examples-hold : Examples-hold

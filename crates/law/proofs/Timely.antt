@@ -1,10 +1,10 @@
 -- What a sound port gives: each packet that waits can still be on time, so each that is taken ends on time. Assumes nothing.
 use mathlib.Core.List.{List, [], _∷_}
-use mathlib.Core.Logic.{inl, inr}
+use mathlib.Core.Logic.{inr}
 use mathlib.Core.Path.{_≡_, refl, sym, ap, subst}
 use Prim.Native.Nat.{ℕ, _+_, _-_, _*_, _≤_, _<_}
-use lib.ListN.{length, getD}
-use native.Mathlib.Nat.{mul-le-mul-left, mul-le-mul-right, le-of-mul-le-mul-left}
+use lib.ListN.{length}
+use native.Mathlib.Nat.{mul-le-mul-right, le-of-mul-le-mul-left}
 use native.Mathlib.Omega.{arith}
 use Rattle.std.specs.shelf.Lists.{All, sum, sumBy}
 use Rattle.std.proofs.shelf.Elements.{all-getD, all-from-getD}

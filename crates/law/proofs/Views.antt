@@ -3,7 +3,7 @@ use mathlib.Core.Bool.{Bool, true, false}
 use mathlib.Core.List.{List, [], _∷_, _++_, map}
 use mathlib.Core.Logic.{_⊎_, inl, inr, ⊎-elim}
 use mathlib.Core.Path.{_≡_, refl, sym, ap, subst, _∙_}
-use Prim.Native.Nat.{ℕ, zero, suc, _+_, _*_, _≤_, _<_}
+use Prim.Native.Nat.{ℕ, _+_, _*_, _≤_, _<_}
 use lib.ListN.{length, getD, set, drop}
 use native.Mathlib.Omega.{arith}
 use Rattle.std.specs.Iters.{counting}
@@ -13,10 +13,10 @@ use Rattle.std.proofs.shelf.Elements.{all-from-getD}
 use Rattle.std.proofs.shelf.Lists.{getD-set-same, getD-set-other, length-set, length-push, drop-drop, same-lists}
 use Rattle.std.proofs.shelf.Tests.{cases-eq, cases-bool}
 use Rattle.timing.specs.Fluid.{Accepted}
-use Rattle.law.specs.Port.{Queued, Flow, Port, Side, Head, Unready, Precedes, Opened, Arrives, Sends, Idles, Takes, Within, finish, unused, flow-at, accepting, taking, lateness, open-count}
+use Rattle.law.specs.Port.{Queued, Flow, Port, Side, Head, Unready, Precedes, Takes, Within, finish, unused, flow-at, accepting, taking, lateness, open-count}
 use Rattle.law.proofs.Claims.{Sound}
 use Rattle.law.specs.Shares.{seen, stamps}
-use Rattle.law.proofs.Line.{Along, First, None-ready, Starts}
+use Rattle.law.proofs.Line.{Along, First, Starts}
 use Rattle.law.proofs.Kept.{opened-sound, arrives-sound, sends-sound, idles-sound, takes-sound}
 use Rattle.law.proofs.Shared.{seen-accepts}
 use Rattle.law.proofs.Timely.{head-within, flow-within}

@@ -1,9 +1,9 @@
 -- The journeys of a flow's packets, and what they tell at a tick. Nothing is ever removed.
-use mathlib.Core.Bool.{Bool, true, false, cond, _&&_}
-use mathlib.Core.List.{List, [], _∷_, _++_}
-use Prim.Native.Nat.{ℕ, zero, suc, _+_, _-_, _*_, _≤_}
-use lib.Dec.{leb, ltb}
-use lib.ListN.{length, take, drop, getD}
+use mathlib.Core.Bool.{cond}
+use mathlib.Core.List.{List, [], _∷_}
+use Prim.Native.Nat.{ℕ, suc, _+_, _-_}
+use lib.Dec.{leb}
+use lib.ListN.{length}
 use Rattle.timing.specs.Fluid.{Accepted}
 use Rattle.law.specs.Shares.{bytes-of}
 

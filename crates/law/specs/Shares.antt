@@ -1,10 +1,10 @@
 -- A flow's accepted packets, as its ports see them, and its share: how near its bytes stay to the fluid amount.
 use mathlib.Core.List.{List, [], _∷_}
-use Prim.Native.Nat.{ℕ, _+_, _*_, _≤_, _<_}
+use Prim.Native.Nat.{ℕ, _+_, _*_, _≤_}
 use lib.ListN.{take, drop}
 use Rattle.std.specs.shelf.Lists.{All}
 use Rattle.timing.specs.Fluid.{Accepted, accepted-bytes, fluid, last-finish}
-use Rattle.timing.specs.Stamps.{scaled-finish, scaled-start}
+use Rattle.timing.specs.Stamps.{scaled-start}
 use Rattle.law.specs.Port.{Queued, Flow, Head, finish}
 
 -- an accepted packet with its virtual start. f is the scaled virtual finish of the packet before it, 0 where it is the first

@@ -1,8 +1,7 @@
 // The law of the schedule: what a port of the switch does, and by when it is done. There is nothing to compute: each
 // contract is a theorem.
 ghost use Prim.Native.Nat.{ℕ, _≤_, _<_};
-ghost use mathlib.Core.Bool.{Bool, true, false};
-ghost use mathlib.Core.List.{List};
+ghost use mathlib.Core.Bool.{true, false};
 ghost use mathlib.Core.Path.{_≡_};
 ghost use Rattle.law.specs.Examples.{A-run, Examples-hold};
 ghost use Rattle.law.specs.Port.{Port-stays-sound};

@@ -1,11 +1,11 @@
 -- The law of a whole file, for any library beneath the reader. Assumes nothing.
-use Prim.Native.Nat.{ℕ, zero, suc, _+_, _-_, _≤_, _<_}
+use Prim.Native.Nat.{ℕ, zero, suc, _+_, _-_, _<_}
 use mathlib.Core.List.{List, [], _∷_, _++_}
 use mathlib.Core.Logic.{_⊎_, inl, inr, ⊎-elim}
 use mathlib.Core.Path.{_≡_, refl, sym, ap, subst, _∙_}
 use lib.ListN.{length}
 use native.Mathlib.Omega.{arith}
-use Rattle.std.proofs.shelf.Lists.{append-assoc, append-nil}
+use Rattle.std.proofs.shelf.Lists.{append-assoc}
 use Rattle.std.proofs.shelf.Tests.{cases-order}
 use Rattle.std.specs.shelf.Lists.{All}
 use Rattle.std.specs.declared.option.Option.{Option}
@@ -13,7 +13,7 @@ use Rattle.std.specs.declared.option.Option.the-variants.{Some, None}
 use Rattle.std.specs.declared.result.Result.{Result}
 use Rattle.std.specs.declared.result.Result.the-variants.{Ok, Err}
 use Rattle.runfile.specs.Records.{too-long}
-use Rattle.runfile.specs.Order.{Item, head, share, seal, arrival, end, Phase, Ended, phase-after, next-item}
+use Rattle.runfile.specs.Order.{Item, head, share, seal, arrival, end, Ended, phase-after, next-item}
 use Rattle.runfile.specs.File.{Library, phase-of, granted, judged, unless, answer, Reads, opened, more, Outcome, complete, refused, Comes, completed, stopped, bytes-of, text-of, AreBytes, Whole}
 use Rattle.runfile.specs.declared.fault.Cause.{Cause}
 use Rattle.runfile.specs.declared.fault.Fault.{Fault}

@@ -1,6 +1,6 @@
 -- The order of a file's records, and what the reader makes of the next one: head, shares, seal, arrivals, end.
 use Prim.Native.Nat.{ℕ, _-_}
-use mathlib.Core.Bool.{Bool, cond}
+use mathlib.Core.Bool.{cond}
 use mathlib.Core.List.{List, [], _∷_}
 use lib.Dec.{eqb, ltb}
 use lib.ListN.{length}

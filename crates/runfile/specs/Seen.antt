@@ -6,7 +6,6 @@ use Rattle.runfile.specs.declared.order.Booking.{Booking}
 use Rattle.runfile.specs.declared.order.Booking.the-variants as booking
 use Rattle.runfile.specs.declared.order.Traffic.{Traffic}
 use Rattle.runfile.specs.declared.order.Traffic.the-variants as traffic
-use Rattle.runfile.specs.declared.record.Rest.{Rest}
 
 abbrev pub booking-item : Booking → Item × List ℕ
 booking-item (booking.Share s rest) = (share s, rest .bytes .now)

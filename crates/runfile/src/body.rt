@@ -1,5 +1,4 @@
 // What the bodies of records say. Numbers are unsigned, higher byte first.
-ghost use Prim.Native.Nat.{ℕ};
 ghost use mathlib.Core.Path.{_≡_};
 ghost use Rattle.runfile.specs.Bodies.{head-of, share-of, arrival-of};
 

@@ -5,8 +5,7 @@ use mathlib.Core.Bool.{true}
 use lib.Dec.{ltb}
 use Rattle.std.proofs.shelf.Tests.{lt-ltb, cond-false}
 use Rattle.std.specs.Of.Vec.{vec-items, vec-cap}
-use Rattle.plan.specs.Weights.{weight-of}
-use Rattle.carry.specs.Lists.{Appends, peak-of}
+use Rattle.carry.specs.Lists.{Appends}
 use Rattle.carry.proofs.Grows.{append-none, open-answer}
 use Rattle.carry.proofs.lines.push_flow.Needs as need
 
