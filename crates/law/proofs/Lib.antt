@@ -12,6 +12,7 @@ pub mod Views
 pub mod Lines
 pub mod Fronts
 pub mod Steady
+pub mod Turns
 pub mod Lawful
 pub mod Moments
 pub mod Promised

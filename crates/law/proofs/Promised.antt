@@ -10,7 +10,7 @@ use native.Mathlib.Omega.{arith}
 use Rattle.std.proofs.shelf.Counted.{length-map-counting}
 use Rattle.std.proofs.shelf.Sums.{sum-map, countBy-le-length}
 use Rattle.std.specs.Iters.{counting}
-use Rattle.std.specs.shelf.Lists.{sum, sumBy}
+use Rattle.std.specs.shelf.Lists.{All, sum, sumBy}
 use Rattle.std.specs.declared.option.Option.the-variants.{None}
 use Rattle.timing.specs.Fluid.{Accepted}
 use Rattle.law.specs.Port.{Within, finish}
@@ -19,13 +19,14 @@ use Rattle.law.proofs.Line.{Along}
 use Rattle.law.specs.Journeys.{departed, inside}
 use Rattle.law.specs.Step.{Plan, Switch}
 use Rattle.law.specs.Runs.{Departure, departure, no-packet, Call, arrive, step, ask, Answer, granted, Did, at-seal, accepts, is-full, is-unlawful, ticks, no-tick, asks, no-ask, all-inside, unlawful}
-use Rattle.law.specs.Promises.{clock-of, accepted-of, departures-of, Promises, Bookable, open-into, Runs-keep-promises}
+use Rattle.law.specs.Promises.{clock-of, accepted-of, departures-by, departures-of, Promises, Bookable, open-into, Runs-keep-promises}
 use Rattle.law.proofs.Ended.{ended-le-starts}
 use Rattle.law.proofs.Fronts.{along-at, stamp-at-bytes}
 use Rattle.law.proofs.Journal.{Told, told-other}
 use Rattle.law.proofs.Lawful.{lawful, some≢none}
 use Rattle.law.proofs.Moments.{Moment, late, begun-by, moment-seal, moment-arrives, moment-ticks, output-waits}
 use Rattle.law.proofs.Steady.{Steady, share, is-gone, held-from}
+use Rattle.law.proofs.Turns.{Turned, turned-arrives, turned-ticks}
 use Rattle.law.proofs.Views.{map-same}
 
 module _ (plan : Plan) (M : ℕ) (bookable : Bookable plan) where
@@ -53,6 +54,26 @@ module _ (plan : Plan) (M : ℕ) (bookable : Bookable plan) where
   moment (no-tick {log = log} {s = s} room r d e) = idle-call log s _ refl (λ _ _. refl) (λ _ _. refl) (moment d)
   moment (asks {log = log} {s = s} i j d e) = idle-call log s _ refl (λ _ _. refl) (λ _ _. refl) (moment d)
   moment (no-ask {log = log} {s = s} i j r d e) = idle-call log s _ refl (λ _ _. refl) (λ _ _. refl) (moment d)
+
+  -- a call that lists nothing and leaves the switch
+  idle-turn : (log : List (Call × Answer)) (s : Switch) (entry : Call × Answer) → ((i j : ℕ) → departures-by i j (entry .1) ≡ []) → Turned plan log s → Turned plan (entry ∷ log) s
+  idle-turn log s entry none h =
+      record {
+        turn = h .turn;
+        ends = h .ends;
+        in-step = λ i j hi hj. (subst (λ (ds : List Departure). All (λ d. d .tick ≡ clock-of log + 1) ds) (sym (none i j)) tt, h .in-step i j hi hj);
+      }
+
+  turned : {log : List (Call × Answer)} {s : Switch} → Did plan M log s → Turned plan log s
+  turned at-seal = record { turn = λ _ _ _ _. tt; ends = λ _ _ _ _. tt; in-step = λ _ _ _ _. tt }
+  turned (accepts {log = log} {s = s} i j b d e room) =
+      turned-arrives plan log s i j b (λ a c ha hc. let t = moment d .told a c ha hc in omega (arith, t .out-after-across, t .across-after-in)) (turned d)
+  turned (is-full {log = log} {s = s} i j b d e full) = idle-turn log s _ (λ _ _. refl) (turned d)
+  turned (is-unlawful {log = log} {s = s} i j b r d e) = idle-turn log s _ (λ _ _. refl) (turned d)
+  turned (ticks {log = log} {s = s} room cross send d e st) = turned-ticks plan log s cross send st (moment d .clock-told) (turned d) room
+  turned (no-tick {log = log} {s = s} room r d e) = idle-turn log s _ (λ _ _. refl) (turned d)
+  turned (asks {log = log} {s = s} i j d e) = idle-turn log s _ (λ _ _. refl) (turned d)
+  turned (no-ask {log = log} {s = s} i j r d e) = idle-turn log s _ (λ _ _. refl) (turned d)
 
   -- the packets inside, as the log tells them
   told-inside : List (Call × Answer) → ℕ
@@ -122,6 +143,7 @@ module _ (plan : Plan) (M : ℕ) (bookable : Bookable plan) where
           accepted-told = told .accepted-is;
           not-refused = granted-next;
           departures-told = told .departures-is;
+          departures-in-step = turned run .in-step i j hi hj;
           on-time = λ k h.
               let started = ended-le-starts t (f .accepted) (f .sendings) in
               let within = along-at (λ a v. Within (late plan j) w (finish W a) (v + a .bytes)) (stamps W w 0 (f .accepted)) (f .sendings) k (omega arith) (steady .out) in

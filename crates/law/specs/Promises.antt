@@ -6,7 +6,7 @@ use Prim.Native.Nat.{ℕ, _+_, _-_, _*_, _≤_, _<_}
 use lib.Dec.{eqb, ltb}
 use lib.ListN.{length}
 use Rattle.std.specs.Iters.{counting}
-use Rattle.std.specs.shelf.Lists.{countBy, kept-by, sum}
+use Rattle.std.specs.shelf.Lists.{All, countBy, kept-by, sum}
 use Rattle.std.specs.declared.option.Option.the-variants.{None}
 use Rattle.timing.specs.Fluid.{Accepted, fluid}
 use Rattle.law.specs.Journeys.{Journeys, departed, started-bytes, departed-bytes, held}
@@ -48,6 +48,11 @@ abbrev pub departures-of : ℕ → ℕ → List (Call × Answer) → List Depart
 departures-of i j [] = []
 departures-of i j ((call, answer) ∷ log) = departures-of i j log ++ departures-by i j answer
 
+-- each departure of a flow is listed by the step that ends at its tick
+abbrev pub In-step : ℕ → ℕ → List (Call × Answer) → Type 0
+In-step i j [] = Unit {0}
+In-step i j ((call, answer) ∷ log) = All (λ d. d .tick ≡ clock-of log + 1) (departures-by i j answer) × In-step i j log
+
 -- the most that a crosspoint of weight w holds, in W-ths of a byte
 abbrev pub crosspoint-limit : Plan → ℕ → ℕ → ℕ
 crosspoint-limit plan w late = 2 * (plan .parts * plan .longest) + w * late
@@ -64,8 +69,9 @@ pub record Promises (plan : Plan) (M late : ℕ) (log : List (Call × Answer)) (
   pub accepted-told : accepted-of i j log ≡ s .flow i j .accepted
   -- with fewer packets inside than the store's stated size no lawful arrival is refused
   pub not-refused : all-inside plan s < M → (b : ℕ) (answer : Answer) (next : Switch) → unlawful plan i j b ≡ None → Did plan M ((arrive i j b, answer) ∷ log) next → answer ≡ granted
-  -- the departures so far are those of the earliest accepted packets, each once, in that order
+  -- the departures so far are those of the earliest accepted packets, each once, in that order, and each in its own step
   pub departures-told : departures-of i j log ≡ map (departure plan i j (s .flow i j)) (counting 0 (departed (s .clock) (s .flow i j)))
+  pub departures-in-step : In-step i j log
   -- a packet departs at most `late` ticks after its virtual finish, and is not inside once the clock has reached that
   pub on-time : (k : ℕ) → k < departed (s .clock) (s .flow i j) → plan .weight i j * departure plan i j (s .flow i j) k .tick ≤ departure-limit plan late i j (s .flow i j) k
   pub gone : (k : ℕ) → k < length (s .flow i j .accepted) → departure-limit plan late i j (s .flow i j) k ≤ plan .weight i j * s .clock → k < departed (s .clock) (s .flow i j)
