@@ -1,6 +1,6 @@
-// What the plan refuses, and the number of each refusal.
+// What a plan, and a switch over it, refuse, and the number of each refusal.
 ghost use mathlib.Core.Path.{_≡_};
-ghost use Rattle.plan.specs.Numbers.{size-number, share-number, port-number};
+ghost use Rattle.plan.specs.Numbers.{size-number, share-number, port-number, arrive-number};
 
 // A size that is not accepted.
 #[derive(Clone, Copy, PartialEq, Eq, Debug)]
@@ -63,6 +63,32 @@ impl PortFault {
     {
         match self {
             PortFault::Port => 4,
+        }
+    }
+}
+
+// A packet that a switch over the plan does not accept.
+#[derive(Clone, Copy, PartialEq, Eq, Debug)]
+pub enum ArriveFault {
+    // the input or the output is not below N
+    Port,
+    // the length is not 1 to L
+    Length,
+    // the flow has weight 0
+    Closed,
+    // the store's sign of the flow is up
+    Full,
+}
+
+impl ArriveFault {
+    pub fn number(self) -> u8
+        ensures { λ r. ⌜ r ≡ arrive-number self ⌝ }
+    {
+        match self {
+            ArriveFault::Port => 4,
+            ArriveFault::Length => 8,
+            ArriveFault::Closed => 9,
+            ArriveFault::Full => 10,
         }
     }
 }

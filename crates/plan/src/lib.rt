@@ -3,6 +3,7 @@ mod fault;
 mod size;
 mod table;
 
+pub use fault::ArriveFault;
 pub use fault::PortFault;
 pub use fault::ShareFault;
 pub use fault::SizeFault;

@@ -1,10 +1,11 @@
 // Why a run file is refused.
 ghost use mathlib.Core.Path.{_≡_};
 ghost use Rattle.runfile.specs.Numbers.{code};
+use plan::ArriveFault;
 use plan::ShareFault;
 use plan::SizeFault;
 
-// A refusal of the reader, or one of the plan beneath it.
+// A refusal of the reader, or one of the plan or the switch beneath it.
 #[derive(Clone, Copy)]
 pub enum Cause {
     // the file has more than 65,536 bytes
@@ -25,6 +26,8 @@ pub enum Cause {
     Size(SizeFault),
     // the plan refuses the share
     Share(ShareFault),
+    // the switch refuses the arrival
+    Arrive(ArriveFault),
 }
 
 // A refusal, and the place of the record or of the byte that it speaks of.
@@ -35,7 +38,7 @@ pub struct Fault {
 }
 
 impl Cause {
-    // The layer that refuses, reader 1 or plan 2, and the number of the refusal.
+    // The layer that refuses, reader 1, plan 2 or switch 3, and the number of the refusal.
     pub fn code(self) -> (u8, u8)
         ensures { λ r. ⌜ r ≡ code self ⌝ }
     {
@@ -49,6 +52,7 @@ impl Cause {
             Cause::AfterEnd => (1, 20),
             Cause::Size(fault) => (2, fault.number()),
             Cause::Share(fault) => (2, fault.number()),
+            Cause::Arrive(fault) => (3, fault.number()),
         }
     }
 }
