@@ -21,7 +21,7 @@ use Rattle.timing.specs.Marks.{First, tied}
 use Rattle.law.specs.Port.{Queued, finish}
 use Rattle.law.specs.Shares.{stamps}
 use Rattle.law.specs.Step.{Deadline, sooner, mark-of, Chosen, Line-starts, input-mark, output-mark}
-use Rattle.law.specs.Rules.{Rule, Fair, asked, bytes-at-input, bytes-at-output, Rules-make-steps}
+use Rattle.law.specs.Rules.{Rule, Fair, asked, bytes-at-input, bytes-at-output, Rules-make-steps, answers-in-order, Asking-makes-steps}
 use Rattle.law.proofs.Promised.{moment}
 use Rattle.law.proofs.Shared.{stamps-length}
 use Rattle.law.proofs.Views.{all-map-counting}
@@ -147,4 +147,12 @@ rules-make-steps plan M bookable log s run rule fair =
           (all-map-counting Open-mark (output-mark plan s j) n None (λ i hi. open-mark (plan .parts) (plan .weight i j) (length (s .flow i j .sendings)) _ (s .flow i j .accepted) (m .flows i j hi hj .is-open))));
       no-input = λ i h. cond-false (ltb i n) _ None (le-ltb i n h);
       no-output = λ j h. cond-false (ltb j n) _ None (le-ltb j n h);
+    }
+
+pub asking-makes-steps : {K : Type 0} (answer : K → Rule) (told : K → ℕ → ℕ → K → Type 0) → ((k : K) → Fair (answer k)) → (first : K) → Asking-makes-steps answer told first
+asking-makes-steps answer told fair first plan M bookable log s run kept order =
+    rules-make-steps plan M bookable log s run (answers-in-order answer told kept)
+    record {
+      picks = λ code ties waiting k e. fair (kept code) .picks code ties waiting k e;
+      none = λ code ties waiting e k l. fair (kept code) .none code ties waiting e k l;
     }

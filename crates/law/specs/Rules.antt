@@ -2,7 +2,7 @@
 use mathlib.Core.Bool.{Bool, true, false, cond}
 use mathlib.Core.List.{List, map}
 use mathlib.Core.Path.{_≡_}
-use Prim.Native.Nat.{ℕ, _+_, _<_}
+use Prim.Native.Nat.{ℕ, _+_, _-_, _*_, _<_}
 use lib.Dec.{ltb}
 use lib.ListN.{length, getD, take, drop}
 use Rattle.std.specs.Iters.{counting}
@@ -56,3 +56,29 @@ abbrev pub Rules-make-steps : Type 0
 Rules-make-steps =
     (plan : Plan) (M : ℕ) → Bookable plan → (log : List (Call × Answer)) (s : Switch) → Did plan M log s → (rule : Rule) → Fair rule →
     Starts plan s (crossing-choice plan s rule) (sending-choice plan s rule)
+
+-- the choice at a port code: that of an input, then that of an output
+abbrev pub choice : Plan → Switch → Rule → ℕ → Option ℕ
+choice plan s rule code = cond (ltb code (plan .ports)) (crossing-choice plan s rule code) (sending-choice plan s rule (code - plan .ports))
+
+-- A rule that keeps something, of type K: its answers from what it keeps, and what it may keep once told a winner.
+module _ {K : Type 0} (answer : K → Rule) (told : K → ℕ → ℕ → K → Type 0) where
+  -- what it may keep after a choice: a winner is told, and nothing otherwise
+  abbrev pub Kept-after : K → ℕ → Option ℕ → K → Type 0
+  Kept-after now-kept code None next = next ≡ now-kept
+  Kept-after now-kept code (Some winner) next = told now-kept code winner next
+
+  -- a step asks at each port code in order, and tells each winner before it asks at the next; `kept` is what the rule keeps
+  -- when it is asked at each code, and at 2 × N after the step
+  pub record In-order (plan : Plan) (s : Switch) (first : K) (kept : ℕ → K) : Type 0 where
+    pub begins : kept 0 ≡ first
+    pub goes-on : (code : ℕ) → code < 2 * plan .ports → Kept-after (kept code) code (choice plan s (answer (kept code)) code) (kept (code + 1))
+
+  abbrev pub answers-in-order : (ℕ → K) → Rule
+  answers-in-order kept code = answer (kept code) code
+
+  -- in every run the answers of the rule, asked in order, are starts of a step
+  abbrev pub Asking-makes-steps : K → Type 0
+  Asking-makes-steps first =
+      (plan : Plan) (M : ℕ) → Bookable plan → (log : List (Call × Answer)) (s : Switch) → Did plan M log s → (kept : ℕ → K) → In-order plan s first kept →
+      Starts plan s (crossing-choice plan s (answers-in-order kept)) (sending-choice plan s (answers-in-order kept))

@@ -7,7 +7,7 @@ ghost use Rattle.law.specs.Examples.{A-run, Examples-hold};
 ghost use Rattle.law.specs.Port.{Port-stays-sound};
 ghost use Rattle.law.specs.Plans.{plan-of};
 ghost use Rattle.law.specs.Promises.{Bookable, Runs-keep-promises};
-ghost use Rattle.law.specs.Rules.{Fair, Rules-make-steps};
+ghost use Rattle.law.specs.Rules.{Asking-makes-steps, Fair, Rules-make-steps};
 ghost use Rattle.law.specs.Shares.{Flow-keeps-its-share};
 ghost use Rattle.grid.specs.Flows.{inside};
 ghost use Rattle.store.specs.Stored.{stored};
@@ -65,9 +65,10 @@ pub fn plan_stands(plan: &Plan) -> usize
     plan.size.ports
 }
 
-// Whatever a tie rule keeps, its answers are those that a step may take.
+// Whatever a tie rule keeps, its answers are those that a step may take, also as it is told the winners of the step.
 pub fn rule_stands<R: TieRule>(rule: &R) -> u8
-    ensures { λ _. ⌜ Fair (λ code ties waiting. R·TieRule .answer (now (rule .entry)) code ties waiting) ⌝ }
+    ensures fair { λ _. ⌜ Fair (λ code ties waiting. R·TieRule .answer (now (rule .entry)) code ties waiting) ⌝ }
+    ensures steps { λ _. ⌜ Asking-makes-steps (λ k code ties waiting. R·TieRule .answer k code ties waiting) (λ k code winner next. R·TieRule .told k code winner next) (now (rule .entry)) ⌝ }
 {
     0
 }
