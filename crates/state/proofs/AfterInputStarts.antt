@@ -16,11 +16,9 @@ use Rattle.law.specs.Runs.{Call, Answer, no_packet}
 use Rattle.law.specs.Step.{Switch, input_mark, at_input, LineStarts, names, with_start, head_bytes, busy_until}
 use Rattle.law.proofs.OneAtATime.{head_at}
 use Rattle.law.proofs.StampsOfFlow.{stamp_at_bytes}
-use Rattle.state.specs.declared.line.Line.{Line}
-use Rattle.state.specs.declared.line.Line.TheVariants.{Busy}
 use Rattle.state.specs.declared.line.Ledger.{Ledger}
 use Rattle.state.specs.State.{State}
-use Rattle.state.specs.Lines.{until_of, loaded_with, to_output}
+use Rattle.state.specs.Lines.{until_of, loaded_with, to_output, Line, busy}
 use Rattle.state.specs.Crosses.{next_across, starting, crossed_with, crossed_by}
 use Rattle.state.specs.Shows.{packets, IsOnLine, FlowShows, Moment}
 use Rattle.state.proofs.ExactTotals.{started_exact, departed_exact}
@@ -42,13 +40,13 @@ line_takes false t ps vs mine until until' some free o ends = off_line t ps vs f
 
 -- the cells of a flow after a choice: its own start, and that of another
 here_with : (p : Packet) (st : State) (i j : ℕ) → ((crossed_with (Some p) st i j).lists i j ≡ noted (st.ledgers i j).under_way st.clock (st.lists i j))
-    × ((crossed_with (Some p) st i j).ledgers i j ≡ starting p.bytes (st.ledgers i j)) × ((crossed_with (Some p) st i j).crossing i ≡ Busy j ((st.clock + p.bytes) % 2 ^ 64))
+    × ((crossed_with (Some p) st i j).ledgers i j ≡ starting p.bytes (st.ledgers i j)) × ((crossed_with (Some p) st i j).crossing i ≡ busy j ((st.clock + p.bytes) % 2 ^ 64))
 here_with p st i j =
     let a : eqb i i ≡ true = eq-eqb i i refl in
     let b : eqb j j ≡ true = eq-eqb j j refl in (
       (λ k. cond (a k && b k) (noted (st.ledgers i j).under_way st.clock (st.lists i j)) (st.lists i j)),
       (λ k. cond (a k && b k) (starting p.bytes (st.ledgers i j)) (st.ledgers i j)),
-      (λ k. cond (a k) (Busy j ((st.clock + p.bytes) % 2 ^ 64)) (st.crossing i)),
+      (λ k. cond (a k) (busy j ((st.clock + p.bytes) % 2 ^ 64)) (st.crossing i)),
     )
 
 beside_with : (o : Option Packet) (st : State) (i k j : ℕ) → eqb j k ≡ false → ((crossed_with o st i k).lists i j ≡ st.lists i j) × ((crossed_with o st i k).ledgers i j ≡ st.ledgers i j)
@@ -130,7 +128,7 @@ module _ {M : ℕ} {st : State} {log : List (Call × Answer)} {s : Switch} (now 
 
   -- the cells of the state after the starts
   mid_started : (i j : ℕ) (x : StartsAcross i j) → (mid.lists i j ≡ noted (st.ledgers i j).under_way st.clock (st.lists i j))
-      × (mid.ledgers i j ≡ starting x.packet.bytes (st.ledgers i j)) × (mid.crossing i ≡ Busy j ((st.clock + x.packet.bytes) % 2 ^ 64))
+      × (mid.ledgers i j ≡ starting x.packet.bytes (st.ledgers i j)) × (mid.crossing i ≡ busy j ((st.clock + x.packet.bytes) % 2 ^ 64))
   mid_started i j x =
       let w = here_with x.packet st i j in (
         ap (λ (r : Row). r.lists j) (ins.done.rows i) ∙ ap (λ (o : Option ℕ). (crossed_by o st i).lists i j) x.chosen ∙ ap (λ (o : Option Packet). (crossed_with o st i j).lists i j) x.is ∙ w.0,

@@ -17,11 +17,9 @@ use Rattle.law.specs.Queues.{finish, stamps, bytes_of}
 use Rattle.law.specs.Runs.{Call, Answer, no_packet, no_stamp, departure}
 use Rattle.law.specs.Step.{Plan, Switch, output_mark, at_output, Starts, names, with_start, busy_until, started_flow}
 use Rattle.law.proofs.EndedPackets.{ended_more_starts}
-use Rattle.state.specs.declared.line.Line.{Line}
-use Rattle.state.specs.declared.line.Line.TheVariants.{Idle, Busy}
 use Rattle.state.specs.declared.line.Ledger.{Ledger}
 use Rattle.state.specs.State.{State}
-use Rattle.state.specs.Lines.{until_of, loaded_with, from_input}
+use Rattle.state.specs.Lines.{until_of, loaded_with, from_input, Line, busy}
 use Rattle.state.specs.Sends.{next_out, departure_of, tick_of}
 use Rattle.state.specs.Shows.{packets, first_of, IsOnLine, Loaded, FlowShows, Moment}
 use Rattle.state.proofs.AfterInputStarts.{InputsStart, mid_flow, line_takes, head_is}
@@ -157,11 +155,11 @@ module _ {M : ℕ} {st : State} {log : List (Call × Answer)} {s : Switch} (now 
         fits = mod-eq_of_lt small;
       }
 
-  line_out : (i j : ℕ) (x : StartsOut i j) → sent.sending j ≡ Busy (departure_of s.clock i j x.packet) ((s.clock + x.packet.bytes) % 2 ^ 64)
+  line_out : (i j : ℕ) (x : StartsOut i j) → sent.sending j ≡ busy (departure_of s.clock i j x.packet) ((s.clock + x.packet.bytes) % 2 ^ 64)
   line_out i j x =
       all.outputs.lines j ∙ ap (λ (o : Option ℕ). line_by o mid j (mid.sending j)) x.chosen
       ∙ ap (λ (o : Option Packet). line_with o mid i j (mid.sending j)) x.is
-      ∙ (λ k. Busy (departure_of (mid_clock k) i j x.packet) ((mid_clock k + x.packet.bytes) % 2 ^ 64))
+      ∙ (λ k. busy (departure_of (mid_clock k) i j x.packet) ((mid_clock k + x.packet.bytes) % 2 ^ 64))
 
   line_kept : (j : ℕ) → j < st.plan.size.ports → send j ≡ None → sent.sending j ≡ st.sending j
   line_kept j hj e = all.outputs.lines j ∙ ap (λ (o : Option ℕ). line_by o mid j (mid.sending j)) e ∙ ap (λ (g : ℕ → Line Departure). g j) all.inputs.beside.sending_is
@@ -211,12 +209,12 @@ module _ {M : ℕ} {st : State} {log : List (Call × Answer)} {s : Switch} (now 
 
   load_kept : (j : ℕ) → j < st.plan.size.ports → (line : Line Departure) → ((i : ℕ) → i < st.plan.size.ports → IsOnLine s.clock (s.flow i j).accepted (s.flow i j).sendings (loaded_with from_input i line) (until_of line)) →
       Loaded (plan_of st.plan) s.clock (λ i. s.flow i j) j line → Loaded (plan_of st.plan) s.clock (λ i. flow_with None i j) j line
-  load_kept j hj Idle on l = tt
-  load_kept j hj (Busy d until) on l = λ busy.
-      let old = l busy in
-      let i = d.input in
+  load_kept j hj None on l = tt
+  load_kept j hj (Some b) on l = λ before.
+      let old = l before in
+      let i = b.load.input in
       let k = departed s.clock (s.flow i j) in
-      let one : length (s.flow i j).sendings ≡ k + 1 = (on i old.0).count ∙ (λ x. k + cond (eq-eqb i i refl x && lt-ltb s.clock until busy x) 1 0) in
+      let one : length (s.flow i j).sendings ≡ k + 1 = (on i old.0).count ∙ (λ x. k + cond (eq-eqb i i refl x && lt-ltb s.clock b.until before x) 1 0) in
       let order = (starts_in_order now i j old.0 hj).0 in
       (old.0, old.1 ∙ old_load (plan_of st.plan) i j (s.flow i j) (names (cross i) j) s.clock k (omega (arith, one, order)))
 

@@ -16,10 +16,9 @@ use Rattle.law.specs.Step.{Plan, Switch, started_flow, after_tick}
 use Rattle.law.proofs.DeparturesOfFlow.{joined_one}
 use Rattle.law.proofs.EndedPackets.{ended_later}
 use Rattle.law.proofs.PromisesKept.{moment}
-use Rattle.state.specs.declared.line.Line.{Line}
 use Rattle.state.specs.declared.line.Ledger.{Ledger}
 use Rattle.state.specs.State.{State}
-use Rattle.state.specs.Lines.{until_of, loaded_with, to_output, from_input}
+use Rattle.state.specs.Lines.{until_of, loaded_with, to_output, from_input, Line}
 use Rattle.state.specs.Finishes.{ends_at, leaving, departing, listed_with, listed_to}
 use Rattle.state.specs.Sends.{ticked}
 use Rattle.state.specs.Shows.{packets, IsOnLine, Loaded, FlowShows, Shows, Moment}

@@ -21,10 +21,8 @@ use Rattle.law.specs.Step.{Switch}
 use Rattle.law.proofs.EndedPackets.{ended_more_packets}
 use Rattle.law.proofs.LawfulArrivals.{lawful}
 use Rattle.law.proofs.LogOfFlow.{departure_grown}
-use Rattle.state.specs.declared.line.Line.{Line}
-use Rattle.state.specs.declared.line.Line.TheVariants.{Idle, Busy}
 use Rattle.state.specs.State.{State}
-use Rattle.state.specs.Lines.{until_of, loaded_with, from_input}
+use Rattle.state.specs.Lines.{until_of, loaded_with, from_input, Line}
 use Rattle.state.specs.Stamping.{stampable, incoming}
 use Rattle.state.specs.Arrives.{arrive_answer, arrive_state, accepted_state, accepting, ArriveLeads}
 use Rattle.state.specs.Shows.{IsOnLine, Loaded, FlowShows, Shows, Moment, CarriesOn, arrive_told}
@@ -114,14 +112,14 @@ module _ {M : ℕ} {st : State} {log : List (Call × Answer)} {s : Switch} (now 
   loads_after : (c : ℕ) → c < st.plan.size.ports → (line : Line Departure) →
       ((a : ℕ) → a < st.plan.size.ports → IsOnLine s.clock (s.flow a c).accepted (s.flow a c).sendings (loaded_with from_input a line) (until_of line)) →
       Loaded (plan_of st.plan) s.clock (λ a. s.flow a c) c line → Loaded (plan_of st.plan) s.clock (λ a. (arrived s i j b).flow a c) c line
-  loads_after c hc Idle o l = tt
-  loads_after c hc (Busy d until) o l = λ busy.
-      let old = l busy in
-      let a = d.input in
+  loads_after c hc None o l = tt
+  loads_after c hc (Some held) o l = λ before.
+      let old = l before in
+      let a = held.load.input in
       let few = (long a c old.0 hc).0 in
       let here = o a old.0 in
       let k = departed s.clock (s.flow a c) in
-      let on : (eqb a a && ltb s.clock until) ≡ true = rw (eq-eqb a a refl, lt-ltb s.clock until busy) in
+      let on : (eqb a a && ltb s.clock held.until) ≡ true = rw (eq-eqb a a refl, lt-ltb s.clock held.until before) in
       let one : length (s.flow a c).sendings ≡ k + 1 = here.count ∙ ap (λ v. k + cond v 1 0) on in
       (old.0, old.1 ∙ departure_after (eqb a i && eqb c j) a c k (omega (arith, one, few)) ∙ ap (departure (plan_of st.plan) a c ((arrived s i j b).flow a c)) (sym (ended_after (eqb a i && eqb c j) a c (s.flow a c).sendings few)))
 

@@ -2,14 +2,13 @@
 use Rattle.std.proofs.Common.{◌≡◌, ℕ, zero, suc, ◌+◌, ◌<◌, ◌≤◌, Bool, true, false, cond, ◌&&◌, eqb, ltb, List, [], ◌∷◌, length, drop, Some, None, Option, sym, refl, ap, ◌∙◌, subst, ⊎_elim, arith}
 use Rattle.std.proofs.lemmas.Bool.{cases_eq, lt-ltb, eq-eqb, ne_eqb, and_right}
 use Rattle.store.specs.declared.packet.Packet.{Packet}
-use Rattle.state.specs.declared.line.Line.{Line}
-use Rattle.state.specs.declared.line.Line.TheVariants.{Idle}
 use Rattle.state.specs.declared.line.Ledger.{Ledger}
 use Rattle.departure.specs.declared.Departure.{Departure}
 use Rattle.state.specs.State.{State}
 use Rattle.state.specs.Finishes.{leaving, departing, finished, finished_with, finish_to}
 use Rattle.state.proofs.Lists.{cond_both}
 use Rattle.state.proofs.ListedByOutput.{leaving_kept}
+use Rattle.state.specs.Lines.{Line}
 
 -- what flow (a, b) and its output's line are
 pub record Cell : Type 0 where
@@ -23,7 +22,7 @@ cell st a b = record { line = st.sending b; list = st.lists a b; ledger = st.led
 -- once this has left
 abbrev pub left_cell : Option Departure → ℕ → Cell → Cell
 left_cell None a c = c
-left_cell (Some d) a c = record { line = Idle; list = cond (eqb a d.input) (drop 1 c.list) c.list; ledger = cond (eqb a d.input) (departing d.bytes c.ledger) c.ledger }
+left_cell (Some d) a c = record { line = None; list = cond (eqb a d.input) (drop 1 c.list) c.list; ledger = cond (eqb a d.input) (departing d.bytes c.ledger) c.ledger }
 
 dropped : (v : Bool) (rest others : ℕ → ℕ → List Packet) (a b : ℕ) → cond v rest others a b ≡ cond v (rest a b) (others a b)
 dropped true rest others a b = refl
@@ -55,7 +54,7 @@ finished_here (Some d) st a n =
     ((λ k. cond (eq-eqb i i refl k && yes k) (departing d.bytes (st.ledgers i n)) (st.ledgers i n)) ∙ ap (λ v. cond v (departing d.bytes (st.ledgers i n)) (st.ledgers i n)) (sym (eq-eqb i i refl))))
     (λ (ne : a ≡ i → ⊥). ap (λ v. cond (v && eqb n n) (departing d.bytes (st.ledgers i n)) (st.ledgers a n)) (ne_eqb a i ne) ∙ ap (λ v. cond v (departing d.bytes (st.ledgers a n)) (st.ledgers a n)) (sym (ne_eqb a i ne)))
     (cases_eq a i) in
-    λ k. record { line = cond (yes k) Idle (st.sending n); list = list k; ledger = ledger k }
+    λ k. record { line = cond (yes k) None (st.sending n); list = list k; ledger = ledger k }
 
 finished_there : (o : Option Departure) (st : State) (a b n : ℕ) → eqb b n ≡ false → cell (finished_with o st n) a b ≡ cell st a b
 finished_there None st a b n e = refl
@@ -66,7 +65,7 @@ finished_there (Some d) st a b n e =
     let list : (finished_with (Some d) st n).lists a b ≡ st.lists a b =
     dropped some (λ x y. cond (eqb x i && eqb y n) (drop 1 (st.lists i n)) (st.lists x y)) st.lists a b
     ∙ ap (λ v. cond some (cond v (drop 1 (st.lists i n)) (st.lists a b)) (st.lists a b)) off ∙ cond_both some (st.lists a b) in
-    λ k. record { line = cond (e k) Idle (st.sending b); list = list k; ledger = cond (off k) (departing d.bytes (st.ledgers i n)) (st.ledgers a b) }
+    λ k. record { line = cond (e k) None (st.sending b); list = list k; ledger = cond (off k) (departing d.bytes (st.ledgers i n)) (st.ledgers a b) }
 
 -- the state after the first n outputs have let go what leaves
 pub record Finish (n : ℕ) (st fin : State) : Type 0 where

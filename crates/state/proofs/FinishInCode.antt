@@ -4,13 +4,11 @@ use Rattle.std.proofs.lemmas.Bool.{ltb-true}
 use Rattle.std.proofs.lemmas.List.{append-nil}
 use Rattle.grid.specs.Flows.{with_flow}
 use Rattle.store.specs.declared.packet.Packet.{Packet}
-use Rattle.state.specs.declared.line.Line.{Line}
-use Rattle.state.specs.declared.line.Line.TheVariants.{Idle, Busy}
 use Rattle.state.specs.declared.line.Ledger.{Ledger}
 use Rattle.departure.specs.declared.Departure.{Departure}
 use Rattle.state.specs.State.{State}
 use Rattle.state.specs.Finishes.{ends_at, leaving, finished, finished_with, listed_with, finish_to, listed_to}
-use Rattle.state.specs.Lines.{with_line}
+use Rattle.state.specs.Lines.{with_line, Line}
 
 guarded : (a b : Bool) (x y : Departure) → cond a (cond b (Some x) None) None ≡ Some y → (b ≡ true) × (x ≡ y)
 guarded true true x y e = (refl, cc)
@@ -19,14 +17,14 @@ guarded false b x y e = absurd (cc)
 
 -- what leaves comes from an input that the switch may have
 pub ends_within : (t : ℕ) (line : Line Departure) (d : Departure) → ends_at t line ≡ Some d → d.input < 16
-ends_within t Idle d e = absurd (cc)
-ends_within t (Busy load until) d e =
-    let g = guarded (eqb until t) (ltb load.input 16) load d e in
-    subst (λ (x : Departure). x.input < 16) g.1 (ltb-true load.input 16 g.0)
+ends_within t None d e = absurd (cc)
+ends_within t (Some b) d e =
+    let g = guarded (eqb b.until t) (ltb b.load.input 16) b.load d e in
+    subst (λ (x : Departure). x.input < 16) g.1 (ltb-true b.load.input 16 g.0)
 
 -- the state after a packet has left, from the parts that the code has at hand
 pub finished_is : (st : State) (j : ℕ) (d : Departure) (l : Ledger) (less : ℕ) (ok : Bool) (sending : ℕ → Line Departure) (ledgers : ℕ → ℕ → Ledger) (lists : ℕ → ℕ → List Packet) (counts : ℕ → ℕ → ℕ) →
-    leaving st j ≡ Some d → l ≡ st.ledgers d.input j → less ≡ l.under_way - 1 → sending ≡ with_line st.sending j Idle →
+    leaving st j ≡ Some d → l ≡ st.ledgers d.input j → less ≡ l.under_way - 1 → sending ≡ with_line st.sending j None →
     ledgers ≡ with_flow st.ledgers d.input j record l { departed = (l.departed + d.bytes) % 2 ^ 64; under_way = less } →
     ok ≡ ltb 0 (length (st.lists d.input j)) → lists ≡ cond ok (with_flow st.lists d.input j (drop 1 (st.lists d.input j))) st.lists → counts ≡ st.counts →
     ◌≡◌ {A = State} record st { sending = sending; ledgers = ledgers; lists = lists; counts = counts } (finished st j)
@@ -34,7 +32,7 @@ finished_is st j d l less ok sending ledgers lists counts is le ue se de oe li c
     let dropped = li ∙ ap (λ v. cond v (with_flow st.lists d.input j (drop 1 (st.lists d.input j))) st.lists) oe in
     (λ k. record st { sending = se k; ledgers = de k; lists = dropped k; counts = ce k })
     ∙ (λ k. record st {
-      sending = with_line st.sending j Idle;
+      sending = with_line st.sending j None;
       ledgers = with_flow st.ledgers d.input j record (le k) { departed = ((le k).departed + d.bytes) % 2 ^ 64; under_way = (ue ∙ ap (λ (x : Ledger). x.under_way - 1) le) k };
       lists = cond (ltb 0 (length (st.lists d.input j))) (with_flow st.lists d.input j (drop 1 (st.lists d.input j))) st.lists;
     })

@@ -9,11 +9,9 @@ use Rattle.store.specs.Stored.{noted}
 use Rattle.store.specs.declared.packet.Packet.{Packet}
 use Rattle.tie.specs.declared.question.Question.{Question}
 use Rattle.law.specs.Rules.{Rule, asked, KeptAfter}
-use Rattle.state.specs.declared.line.Line.{Line}
-use Rattle.state.specs.declared.line.Line.TheVariants.{Busy}
 use Rattle.state.specs.declared.line.Ledger.{Ledger}
 use Rattle.state.specs.State.{State}
-use Rattle.state.specs.Lines.{busy_at}
+use Rattle.state.specs.Lines.{busy_at, Line, busy}
 use Rattle.state.specs.Crosses.{mark_across, next_across, marks_across, waits_across, choice_across, starting, crossed_with, crossed_by, Crossings, none_crossed, one_more}
 use Rattle.state.proofs.RuleInTurn.{InTurn, no_turn, more_turn}
 
@@ -33,7 +31,7 @@ next_in_row r j = slice_get (r.lists j) (r.ledgers j).under_way
 abbrev started_with : Option Packet → ℕ → Row → ℕ → ℕ → Row
 started_with None t r i j = r
 started_with (Some p) t r i j = record {
-  line = cond (eqb i i) (Busy j ((t + p.bytes) % 2 ^ 64)) r.line;
+  line = cond (eqb i i) (busy j ((t + p.bytes) % 2 ^ 64)) r.line;
   ledgers = λ b. cond (eqb i i && eqb b j) (starting p.bytes (r.ledgers j)) (r.ledgers b);
   lists = λ b. cond (eqb i i && eqb b j) (noted (r.ledgers j).under_way t (r.lists j)) (r.lists b);
 }
@@ -54,7 +52,7 @@ with_other : (o : Option Packet) (st : State) (i j a : ℕ) → eqb a i ≡ fals
 with_other None st i j a e = refl
 with_other (Some p) st i j a e =
     λ k. record {
-      line = cond (e k) (Busy j ((st.clock + p.bytes) % 2 ^ 64)) (st.crossing a);
+      line = cond (e k) (busy j ((st.clock + p.bytes) % 2 ^ 64)) (st.crossing a);
       ledgers = λ b. cond (e k && eqb b j) (starting p.bytes (st.ledgers i j)) (st.ledgers a b);
       lists = λ b. cond (e k && eqb b j) (noted (st.ledgers i j).under_way st.clock (st.lists i j)) (st.lists a b);
     }

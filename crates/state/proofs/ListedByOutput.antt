@@ -5,14 +5,13 @@ use Rattle.std.proofs.lemmas.Grind.{flat_map-append}
 use Rattle.std.proofs.lemmas.Bool.{ne_eqb}
 use Rattle.std.specs.List.{range_with_len, flat_map}
 use Rattle.law.proofs.Lists.{counting_parts}
-use Rattle.state.specs.declared.line.Line.TheVariants.{Idle}
 use Rattle.departure.specs.declared.Departure.{Departure}
 use Rattle.state.specs.State.{State}
 use Rattle.state.specs.Finishes.{ends_at, leaving, finished_with, listed_with, finish_to, listed_to}
 
 with_keeps : (o : Option Departure) (st : State) (n j : ℕ) → eqb j n ≡ false → ((finished_with o st n).sending j ≡ st.sending j) × ((finished_with o st n).clock ≡ st.clock)
 with_keeps None st n j e = (refl, refl)
-with_keeps (Some d) st n j e = (ap (λ v. cond v Idle (st.sending j)) e, refl)
+with_keeps (Some d) st n j e = (ap (λ v. cond v None (st.sending j)) e, refl)
 
 finish_keeps : (st : State) (n j : ℕ) → n ≤ j → ((finish_to n st).sending j ≡ st.sending j) × ((finish_to n st).clock ≡ st.clock)
 unfolding finish_to

@@ -3,15 +3,13 @@ use Rattle.std.proofs.Common.{◌≡◌, ℕ, zero, suc, ◌+◌, ◌-◌, ◌<�
 use Rattle.std.proofs.lemmas.Bool.{cases_eq, cases_lt, cases_Bool, le-ltb, ltb-true, ltb-false, true≢false}
 use Rattle.plan.specs.declared.fault.TheConstants.{LAST_TICK}
 use Rattle.store.specs.declared.packet.Packet.{Packet}
-use Rattle.state.specs.declared.line.Line.{Line}
-use Rattle.state.specs.declared.line.Line.TheVariants.{Idle, Busy}
 use Rattle.state.specs.State.{State}
 use Rattle.state.specs.Crosses.{mark_across, next_across}
 use Rattle.state.specs.Sends.{mark_out, next_out}
 use Rattle.state.specs.Ready.{across_from, out_from}
 use Rattle.state.proofs.ReadyTick.{ready_across, ready_out, not_ready, is_ready}
 use Rattle.state.specs.Quiet.{sooner_of, input_next, inputs_next, column_next, output_next, outputs_next, next_event, at_tick, Still, StillFor}
-use Rattle.state.specs.Lines.{until_of, busy_at}
+use Rattle.state.specs.Lines.{until_of, busy_at, Line}
 
 -- one port more
 pub input_more : (st : State) (i n best : ℕ) → input_next st i (n + 1) best ≡ sooner_of (input_next st i n best) (until_of (st.crossing i)) (across_from (next_across st i n))
@@ -132,12 +130,12 @@ out_not : (L t : ℕ) (o : Option Packet) → ((x : ℕ) → out_from L o ≡ So
 out_not L t o h = sym (ready_out L t o) ∙ not_ready t o (out_from L o) h
 
 busy_from : {X : Type 0} (t : ℕ) (line : Line X) → busy_at t line ≡ false → until_of line ≤ t
-busy_from t Idle e = omega arith
-busy_from t (Busy load until) e = ltb-false t until e
+busy_from t None e = omega arith
+busy_from t (Some b) e = ltb-false t b.until e
 
 busy_to : {X : Type 0} (t : ℕ) (line : Line X) → busy_at t line ≡ true → t < until_of line
-busy_to t Idle e = absurd (true≢false (sym e))
-busy_to t (Busy load until) e = ltb-true t until e
+busy_to t None e = absurd (true≢false (sym e))
+busy_to t (Some b) e = ltb-true t b.until e
 
 pub still_until : (st : State) (limit t : ℕ) → st.clock ≤ t → t < next_event st limit → Still (at_tick t st)
 still_until st limit t from before =
@@ -252,8 +250,8 @@ out_yes L t x None e l m = none≢some e
 out_yes L t x (Some p) e l m = none≢some (sym m ∙ sym (ready_out L t (Some p)) ∙ is_ready t x p (out_from L (Some p)) e l)
 
 busy_not : {X : Type 0} (t : ℕ) (line : Line X) → until_of line ≤ t → busy_at t line ≡ false
-busy_not t Idle l = refl
-busy_not t (Busy load until) l = le-ltb t until l
+busy_not t None l = refl
+busy_not t (Some b) l = le-ltb t b.until l
 
 due_across : (st : State) (x t : ℕ) → DueAcross st x → x ≤ t → Still (at_tick t st) → ⊥
 due_across st x t d l still =

@@ -4,18 +4,17 @@ use Rattle.std.proofs.lemmas.Bool.{cases_eq, lt-ltb, eq-eqb, ne_eqb, and_right}
 use Rattle.law.specs.Journeys.{Journeys, departed}
 use Rattle.law.specs.Step.{Plan}
 use Rattle.law.specs.Runs.{departure}
-use Rattle.state.specs.declared.line.Line.{Line}
-use Rattle.state.specs.declared.line.Line.TheVariants.{Idle, Busy}
 use Rattle.departure.specs.declared.Departure.{Departure}
 use Rattle.state.specs.Finishes.{ends_at}
 use Rattle.state.specs.Shows.{IsOnLine, Loaded}
 use Rattle.state.proofs.FlowOnLine.{line_free, off_line, line_ends, line_ticks}
-use Rattle.state.specs.Lines.{until_of, loaded_with, from_input}
+use Rattle.state.specs.declared.line.Busy.{Busy}
+use Rattle.state.specs.Lines.{until_of, loaded_with, from_input, Line}
 
 -- the line once this has left it
 abbrev pub left_line : Option Departure → Line Departure → Line Departure
 left_line None line = line
-left_line (Some d) line = Idle
+left_line (Some d) line = None
 
 module _ (plan : Plan) (t j : ℕ) (flows : ℕ → Journeys) where
   -- nothing leaves; or the oldest packet inside of one flow does
@@ -41,65 +40,65 @@ module _ (plan : Plan) (t j : ℕ) (flows : ℕ → Journeys) where
       omega (arith, m)
 
   -- a line that does not end now
-  not_now : (d : Departure) (until : ℕ) → (until ≡ t + 1 → ⊥) → ends_at (t + 1) (Busy d until) ≡ None
-  not_now d until ne = ap (λ v. cond v (cond (ltb d.input 16) (Some d) None) None) (ne_eqb until (t + 1) ne)
+  not_now : (b : Busy Departure) → (b.until ≡ t + 1 → ⊥) → ends_at (t + 1) (Some b) ≡ None
+  not_now b ne = ap (λ v. cond v (cond (ltb b.load.input 16) (Some b.load) None) None) (ne_eqb b.until (t + 1) ne)
 
   -- a line that does
-  ends_now : (d : Departure) (until : ℕ) → until ≡ t + 1 → d.input < 16 → ends_at (t + 1) (Busy d until) ≡ Some d
-  ends_now d until e l = (λ k. cond (eq-eqb until (t + 1) e k) (cond (lt-ltb d.input 16 l k) (Some d) None) None)
+  ends_now : (b : Busy Departure) → b.until ≡ t + 1 → b.load.input < 16 → ends_at (t + 1) (Some b) ≡ Some b.load
+  ends_now b e l = (λ k. cond (eq-eqb b.until (t + 1) e k) (cond (lt-ltb b.load.input 16 l k) (Some b.load) None) None)
 
-  load_at : (d : Departure) (until : ℕ) → AtLine (Busy d until) → until ≡ t + 1 → (d.input < plan.ports) × (d ≡ departure plan d.input j (flows d.input) (departed t (flows d.input)))
-  load_at d until a e = a.load (omega (arith, e))
+  load_at : (b : Busy Departure) → AtLine (Some b) → b.until ≡ t + 1 → (b.load.input < plan.ports) × (b.load ≡ departure plan b.load.input j (flows b.load.input) (departed t (flows b.load.input)))
+  load_at b a e = a.load (omega (arith, e))
 
   pub outcome : (line : Line Departure) → AtLine line → Outcome (ends_at (t + 1) line)
-  outcome Idle a = stays refl (λ i hi. unmoved Idle a i hi refl)
-  outcome (Busy d until) a =
+  outcome None a = stays refl (λ i hi. unmoved None a i hi refl)
+  outcome (Some b) a =
       ⊎_elim
-      (λ (e : until ≡ t + 1).
-      let l = load_at d until a e in
-      let here : length (flows d.input).sendings ≡ departed t (flows d.input) + 1 =
-      (a.on d.input l.0).count ∙ (λ k. departed t (flows d.input) + cond (eq-eqb d.input d.input refl k && lt-ltb t until (omega (arith, e)) k) 1 0) in
-      let went : departed (t + 1) (flows d.input) ≡ departed t (flows d.input) + 1 =
-      moved (Busy d until) a d.input l.0 ∙ (λ k. departed t (flows d.input) + cond (eq-eqb d.input d.input refl k && eq-eqb until (t + 1) e k) 1 0) in
-      goes d (ends_now d until e (omega (arith, l.0, a.few))) l.0 l.1 here went
-      (λ i hi ne. unmoved (Busy d until) a i hi (ap (λ v. v && eqb until (t + 1)) (ne_eqb d.input i (λ z. ne (sym z))))))
-      (λ (ne : until ≡ t + 1 → ⊥). stays (not_now d until ne) (λ i hi. unmoved (Busy d until) a i hi (and_right (eqb d.input i) (eqb until (t + 1)) (ne_eqb until (t + 1) ne))))
-      (cases_eq until (t + 1))
+      (λ (e : b.until ≡ t + 1).
+      let l = load_at b a e in
+      let here : length (flows b.load.input).sendings ≡ departed t (flows b.load.input) + 1 =
+      (a.on b.load.input l.0).count ∙ (λ k. departed t (flows b.load.input) + cond (eq-eqb b.load.input b.load.input refl k && lt-ltb t b.until (omega (arith, e)) k) 1 0) in
+      let went : departed (t + 1) (flows b.load.input) ≡ departed t (flows b.load.input) + 1 =
+      moved (Some b) a b.load.input l.0 ∙ (λ k. departed t (flows b.load.input) + cond (eq-eqb b.load.input b.load.input refl k && eq-eqb b.until (t + 1) e k) 1 0) in
+      goes b.load (ends_now b e (omega (arith, l.0, a.few))) l.0 l.1 here went
+      (λ i hi ne. unmoved (Some b) a i hi (ap (λ v. v && eqb b.until (t + 1)) (ne_eqb b.load.input i (λ z. ne (sym z))))))
+      (λ (ne : b.until ≡ t + 1 → ⊥). stays (not_now b ne) (λ i hi. unmoved (Some b) a i hi (and_right (eqb b.load.input i) (eqb b.until (t + 1)) (ne_eqb b.until (t + 1) ne))))
+      (cases_eq b.until (t + 1))
 
   ticked_on : (line : Line Departure) → AtLine line → (i : ℕ) → i < plan.ports → IsOnLine (t + 1) (flows i).accepted (flows i).sendings (loaded_with from_input i line) (until_of line)
   ticked_on line a i hi = line_ticks t (flows i).accepted (flows i).sendings (loaded_with from_input i line) (until_of line) (a.long i hi) (a.on i hi)
 
   pub on_after : (line : Line Departure) → AtLine line → (i : ℕ) → i < plan.ports →
       IsOnLine (t + 1) (flows i).accepted (flows i).sendings (loaded_with from_input i (left_line (ends_at (t + 1) line) line)) (until_of (left_line (ends_at (t + 1) line) line))
-  on_after Idle a i hi = ticked_on Idle a i hi
-  on_after (Busy d until) a i hi =
+  on_after None a i hi = ticked_on None a i hi
+  on_after (Some b) a i hi =
       ⊎_elim
-      (λ (e : until ≡ t + 1).
-      subst (λ (o : Option Departure). IsOnLine (t + 1) (flows i).accepted (flows i).sendings (loaded_with from_input i (left_line o (Busy d until))) (until_of (left_line o (Busy d until)))) (sym (ends_now d until e (omega (arith, (load_at d until a e).0, a.few))))
-      (off_line (t + 1) (flows i).accepted (flows i).sendings false 0 (line_free (t + 1) (flows i).accepted (flows i).sendings _ until (ticked_on (Busy d until) a i hi) (omega (arith, e))) refl))
-      (λ (ne : until ≡ t + 1 → ⊥).
-      subst (λ (o : Option Departure). IsOnLine (t + 1) (flows i).accepted (flows i).sendings (loaded_with from_input i (left_line o (Busy d until))) (until_of (left_line o (Busy d until)))) (sym (not_now d until ne))
-      (ticked_on (Busy d until) a i hi))
-      (cases_eq until (t + 1))
+      (λ (e : b.until ≡ t + 1).
+      subst (λ (o : Option Departure). IsOnLine (t + 1) (flows i).accepted (flows i).sendings (loaded_with from_input i (left_line o (Some b))) (until_of (left_line o (Some b)))) (sym (ends_now b e (omega (arith, (load_at b a e).0, a.few))))
+      (off_line (t + 1) (flows i).accepted (flows i).sendings false 0 (line_free (t + 1) (flows i).accepted (flows i).sendings _ b.until (ticked_on (Some b) a i hi) (omega (arith, e))) refl))
+      (λ (ne : b.until ≡ t + 1 → ⊥).
+      subst (λ (o : Option Departure). IsOnLine (t + 1) (flows i).accepted (flows i).sendings (loaded_with from_input i (left_line o (Some b))) (until_of (left_line o (Some b)))) (sym (not_now b ne))
+      (ticked_on (Some b) a i hi))
+      (cases_eq b.until (t + 1))
 
   pub load_after : (line : Line Departure) → AtLine line → Loaded plan (t + 1) flows j (left_line (ends_at (t + 1) line) line)
-  load_after Idle a = tt
-  load_after (Busy d until) a =
+  load_after None a = tt
+  load_after (Some b) a =
       ⊎_elim
-      (λ (e : until ≡ t + 1). subst (λ (o : Option Departure). Loaded plan (t + 1) flows j (left_line o (Busy d until))) (sym (ends_now d until e (omega (arith, (load_at d until a e).0, a.few)))) tt)
-      (λ (ne : until ≡ t + 1 → ⊥).
-      subst (λ (o : Option Departure). Loaded plan (t + 1) flows j (left_line o (Busy d until))) (sym (not_now d until ne))
-      (λ (later : t + 1 < until).
+      (λ (e : b.until ≡ t + 1). subst (λ (o : Option Departure). Loaded plan (t + 1) flows j (left_line o (Some b))) (sym (ends_now b e (omega (arith, (load_at b a e).0, a.few)))) tt)
+      (λ (ne : b.until ≡ t + 1 → ⊥).
+      subst (λ (o : Option Departure). Loaded plan (t + 1) flows j (left_line o (Some b))) (sym (not_now b ne))
+      (λ (later : t + 1 < b.until).
       let old = a.load (omega (arith, later)) in
-      let same = unmoved (Busy d until) a d.input old.0 (and_right (eqb d.input d.input) (eqb until (t + 1)) (ne_eqb until (t + 1) ne)) in
-      (old.0, old.1 ∙ ap (departure plan d.input j (flows d.input)) (sym same))))
-      (cases_eq until (t + 1))
+      let same = unmoved (Some b) a b.load.input old.0 (and_right (eqb b.load.input b.load.input) (eqb b.until (t + 1)) (ne_eqb b.until (t + 1) ne)) in
+      (old.0, old.1 ∙ ap (departure plan b.load.input j (flows b.load.input)) (sym same))))
+      (cases_eq b.until (t + 1))
 
   pub until_after : (line : Line Departure) → AtLine line → max (t + 1) (until_of (left_line (ends_at (t + 1) line) line)) ≡ max (t + 1) (until_of line)
-  until_after Idle a = refl
-  until_after (Busy d until) a =
+  until_after None a = refl
+  until_after (Some b) a =
       ⊎_elim
-      (λ (e : until ≡ t + 1).
-      ap (λ (o : Option Departure). max (t + 1) (until_of (left_line o (Busy d until)))) (ends_now d until e (omega (arith, (load_at d until a e).0, a.few))) ∙ (let z : max (t + 1) 0 ≡ max (t + 1) until = omega (arith, e) in z))
-      (λ (ne : until ≡ t + 1 → ⊥). ap (λ (o : Option Departure). max (t + 1) (until_of (left_line o (Busy d until)))) (not_now d until ne))
-      (cases_eq until (t + 1))
+      (λ (e : b.until ≡ t + 1).
+      ap (λ (o : Option Departure). max (t + 1) (until_of (left_line o (Some b)))) (ends_now b e (omega (arith, (load_at b a e).0, a.few))) ∙ (let z : max (t + 1) 0 ≡ max (t + 1) b.until = omega (arith, e) in z))
+      (λ (ne : b.until ≡ t + 1 → ⊥). ap (λ (o : Option Departure). max (t + 1) (until_of (left_line o (Some b)))) (not_now b ne))
+      (cases_eq b.until (t + 1))

@@ -5,10 +5,8 @@ use Rattle.std.proofs.lemmas.Bool.{cases_eq, eq-eqb, ne_eqb}
 use Rattle.store.specs.declared.packet.Packet.{Packet}
 use Rattle.departure.specs.declared.Departure.{Departure}
 use Rattle.law.specs.Rules.{Rule, asked, KeptAfter}
-use Rattle.state.specs.declared.line.Line.{Line}
-use Rattle.state.specs.declared.line.Line.TheVariants.{Busy}
 use Rattle.state.specs.State.{State}
-use Rattle.state.specs.Lines.{busy_at}
+use Rattle.state.specs.Lines.{busy_at, Line, busy}
 use Rattle.state.specs.Sends.{marks_out, waits_out, question_out, next_out, departure_of, sent_with, sent_by, choice_out, Sendings, none_sent, one_more_sent}
 use Rattle.state.proofs.Lists.{cond_both}
 use Rattle.state.proofs.RuleInTurn.{InTurn, no_turn, more_turn}
@@ -20,7 +18,7 @@ with_sending st lines = record st { sending = lines }
 -- the line of output j once it has started this packet
 abbrev pub line_with : Option Packet → State → ℕ → ℕ → Line Departure → Line Departure
 line_with None st i j old = old
-line_with (Some p) st i j old = Busy (departure_of st.clock i j p) ((st.clock + p.bytes) % 2 ^ 64)
+line_with (Some p) st i j old = busy (departure_of st.clock i j p) ((st.clock + p.bytes) % 2 ^ 64)
 
 abbrev pub line_by : Option ℕ → State → ℕ → Line Departure → Line Departure
 line_by None st j old = old

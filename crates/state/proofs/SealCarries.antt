@@ -1,12 +1,11 @@
 -- A seal is the start of a run: the sealed state stands for the sealed switch of the law.
-use Rattle.std.proofs.Common.{◌≡◌, ℕ, List, [], get_or, replicate, sym, refl, arith}
+use Rattle.std.proofs.Common.{◌≡◌, ℕ, List, [], get_or, replicate, sym, refl, arith, None}
 use Rattle.std.proofs.lemmas.Bool.{true≢false}
 use Rattle.plan.specs.declared.table.Plan as kit
 use Rattle.store.specs.declared.packet.Packet.{Packet}
 use Rattle.law.specs.Journeys.{ended}
 use Rattle.law.specs.Runs.{at_seal}
 use Rattle.law.specs.Step.{sealed}
-use Rattle.state.specs.declared.line.Line.TheVariants.{Idle}
 use Rattle.state.specs.declared.line.Ledger.{Ledger}
 use Rattle.state.specs.State.{State, fresh}
 use Rattle.state.specs.Seals.{sealed_state, Opens}
@@ -47,6 +46,6 @@ seal_opens M plan =
 
 -- the state that the code makes
 pub sealed_is : (plan : kit.Plan) (ledgers : ℕ → ℕ → Ledger) (lists : ℕ → ℕ → List Packet) (counts : ℕ → ℕ → ℕ) → ledgers ≡ (λ _ _. fresh) → lists ≡ (λ _ _. []) → counts ≡ (λ _ _. 0) →
-    ◌≡◌ {A = State} record { plan = plan; clock = 0; crossing = λ i. get_or (replicate 16 Idle) i Idle; sending = λ j. get_or (replicate 16 Idle) j Idle; ledgers = ledgers; lists = lists; counts = counts } (sealed_state plan)
+    ◌≡◌ {A = State} record { plan = plan; clock = 0; crossing = λ i. get_or (replicate 16 None) i None; sending = λ j. get_or (replicate 16 None) j None; ledgers = ledgers; lists = lists; counts = counts } (sealed_state plan)
 sealed_is plan ledgers lists counts a b c =
-    λ k. record { plan = plan; clock = 0; crossing = lines_same Idle 16 k; sending = lines_same Idle 16 k; ledgers = a k; lists = b k; counts = c k }
+    λ k. record { plan = plan; clock = 0; crossing = lines_same None 16 k; sending = lines_same None 16 k; ledgers = a k; lists = b k; counts = c k }

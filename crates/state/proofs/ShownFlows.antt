@@ -1,6 +1,6 @@
 -- What the state at a moment of a run shows of the flows: the packets stored are those inside, a flow outside the plan has none, and
 -- the bytes of a flow are far below 2 ^ 64.
-use Rattle.std.proofs.Common.{◌≡◌, ℕ, zero, suc, ◌+◌, ◌-◌, ◌^◌, ◌<◌, ◌≤◌, max, true, false, ltb, List, [], ◌∷◌, length, sum_by, sym, refl, ap, ◌∙◌, ⊎_elim, add-zero, arith}
+use Rattle.std.proofs.Common.{◌≡◌, ℕ, zero, suc, ◌+◌, ◌-◌, ◌^◌, ◌<◌, ◌≤◌, max, true, false, ltb, List, [], ◌∷◌, length, sum_by, sym, refl, ap, ◌∙◌, ⊎_elim, add-zero, arith, Some, None}
 use mathlib.Core.Path.{fun_ext}
 use native.Mathlib.Nat.{le_dest}
 use Rattle.std.specs.List.{range_with_len}
@@ -25,10 +25,8 @@ use Rattle.law.proofs.FlowInvariant.{Steady}
 use Rattle.law.proofs.Lists.{sum_counting}
 use Rattle.law.proofs.PromisesKept.{moment, runs_keep_promises}
 use Rattle.law.proofs.SwitchInvariant as law
-use Rattle.state.specs.declared.line.Line.{Line}
-use Rattle.state.specs.declared.line.Line.TheVariants.{Idle, Busy}
 use Rattle.state.specs.State.{State}
-use Rattle.state.specs.Lines.{until_of, busy_at}
+use Rattle.state.specs.Lines.{until_of, busy_at, Line}
 use Rattle.state.specs.Stamping.{stampable}
 use Rattle.state.specs.Shows.{packets, Shows, Moment, AllPromises}
 use Rattle.state.proofs.FlowBounds.{accepted_small, is_stampable}
@@ -79,8 +77,8 @@ test_same t a b e =
     (cases_lt t a)
 
 pub busy_until : {X : Type 0} (t : ℕ) (line : Line X) → busy_at t line ≡ ltb t (until_of line)
-busy_until t Idle = sym (le-ltb t 0 (omega arith))
-busy_until t (Busy load until) = refl
+busy_until t None = sym (le-ltb t 0 (omega arith))
+busy_until t (Some b) = refl
 
 module _ {st : State} {s : Switch} (h : Shows st s) where
   pub input_busy : (i : ℕ) → i < st.plan.size.ports → busy_at st.clock (st.crossing i) ≡ ltb s.clock (s.crossing_until i)

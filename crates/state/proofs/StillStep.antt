@@ -1,5 +1,5 @@
 -- A step in a still state (`Still`) starts nothing and lists nothing: it changes the clock only, and tells the rule nothing.
-use Rattle.std.proofs.Common.{◌≡◌, ℕ, zero, suc, ◌+◌, ◌<◌, ◌≤◌, Bool, true, false, List, [], ◌++◌, map, length, get_or, None, Option, sym, refl, ap, ◌∙◌, subst, ⊎_elim, add-one, arith}
+use Rattle.std.proofs.Common.{◌≡◌, ℕ, zero, suc, ◌+◌, ◌<◌, ◌≤◌, Bool, true, false, List, [], ◌++◌, map, length, get_or, None, Option, sym, refl, ap, ◌∙◌, subst, ⊎_elim, add-one, arith, Some}
 use Rattle.std.proofs.lemmas.List.{get_or-map, get_or_past, length-map}
 use Rattle.std.proofs.lemmas.Bool.{cases_lt, ne_eqb}
 use Rattle.timing.specs.Marks.{tied, stands_first}
@@ -8,8 +8,6 @@ use Rattle.timing.specs.declared.Stamp.{Stamp}
 use Rattle.tie.specs.PicksTied.{PicksTied}
 use Rattle.tie.specs.Positions.{Untied}
 use Rattle.law.specs.Rules.{Rule, KeptAfter, asked}
-use Rattle.state.specs.declared.line.Line.{Line}
-use Rattle.state.specs.declared.line.Line.TheVariants.{Idle, Busy}
 use Rattle.departure.specs.declared.Departure.{Departure}
 use Rattle.state.specs.State.{State}
 use Rattle.state.specs.Crosses.{marks_across, question_across, mark_across, next_across, choice_across, crossed_by, Crossings, none_crossed, one_more}
@@ -17,7 +15,7 @@ use Rattle.state.specs.Sends.{marks_out, question_out, mark_out, next_out, choic
 use Rattle.state.specs.Finishes.{ends_at, leaving, finished, finished_with, listed_with, finish_to, listed_to}
 use Rattle.state.proofs.Lists.{row_none}
 use Rattle.state.specs.Quiet.{at_tick, Still, QuietSteps}
-use Rattle.state.specs.Lines.{until_of, busy_at}
+use Rattle.state.specs.Lines.{until_of, busy_at, Line}
 
 -- a row without marks has no ties
 untied_row : (row : List (Option Stamp)) → ((k : ℕ) → get_or row k None ≡ None) → Untied (tied earlier row)
@@ -29,8 +27,8 @@ untied_row row h k l =
 
 -- a line that falls free at another tick
 none_ends : (t : ℕ) (line : Line Departure) → (until_of line ≡ t → ⊥) → ends_at t line ≡ None
-none_ends t Idle h = refl
-none_ends t (Busy load until) h = rw (ne_eqb until t h)
+none_ends t None h = refl
+none_ends t (Some b) h = rw (ne_eqb b.until t h)
 
 module _ {K : Type 0} (answer : K → Rule) (told : K → ℕ → ℕ → K → Type 0)
     (picks-tied : (k : K) → PicksTied (answer k)) where

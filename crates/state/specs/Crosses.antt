@@ -9,10 +9,9 @@ use Rattle.store.specs.Stored.{noted}
 use Rattle.store.specs.declared.packet.Packet.{Packet}
 use Rattle.tie.specs.declared.question.Question.{Question}
 use Rattle.law.specs.Rules.{Rule, asked, KeptAfter}
-use Rattle.state.specs.declared.line.Line.TheVariants.{Busy}
 use Rattle.state.specs.declared.line.Ledger.{Ledger}
 use Rattle.state.specs.State.{State}
-use Rattle.state.specs.Lines.{busy_at, with_line}
+use Rattle.state.specs.Lines.{busy_at, with_line, busy}
 
 -- the mark at tick t of a packet that may start across: its virtual finish, once its virtual start has come
 abbrev pub mark_across : ℕ → Option Packet → Option Stamp
@@ -49,7 +48,7 @@ abbrev pub crossed_with : Option Packet → State → ℕ → ℕ → State
 crossed_with None st i j = st
 crossed_with (Some p) st i j =
     record st {
-      crossing = with_line st.crossing i (Busy j ((st.clock + p.bytes) % 2 ^ 64));
+      crossing = with_line st.crossing i (busy j ((st.clock + p.bytes) % 2 ^ 64));
       ledgers = with_flow st.ledgers i j (starting p.bytes (st.ledgers i j));
       lists = with_flow st.lists i j (noted (st.ledgers i j).under_way st.clock (st.lists i j));
     }

@@ -1,17 +1,15 @@
 -- The end of a step: at each output in order, what leaves.
 use Rattle.std.specs.Prelude.{ℕ, zero, suc, ◌+◌, ◌-◌, ◌%◌, ◌^◌, cond, List, [], ◌∷◌, ◌++◌, length, drop, Some, None, Option, ◌==◌, nat_lt}
 use Rattle.grid.specs.Flows.{with_flow}
-use Rattle.state.specs.declared.line.Line.{Line}
-use Rattle.state.specs.declared.line.Line.TheVariants.{Idle, Busy}
 use Rattle.state.specs.declared.line.Ledger.{Ledger}
 use Rattle.departure.specs.declared.Departure.{Departure}
 use Rattle.state.specs.State.{State}
-use Rattle.state.specs.Lines.{with_line}
+use Rattle.state.specs.Lines.{with_line, Line}
 
 -- what ends on a line at tick t
 abbrev pub ends_at : ℕ → Line Departure → Option Departure
-ends_at t Idle = None
-ends_at t (Busy load until) = cond (until == t) (cond (nat_lt load.input 16) (Some load) None) None
+ends_at t None = None
+ends_at t (Some b) = cond (b.until == t) (cond (nat_lt b.load.input 16) (Some b.load) None) None
 
 -- what leaves by output j now
 abbrev pub leaving : State → ℕ → Option Departure
@@ -26,7 +24,7 @@ abbrev pub finished_with : Option Departure → State → ℕ → State
 finished_with None st j = st
 finished_with (Some d) st j =
     record st {
-      sending = with_line st.sending j Idle;
+      sending = with_line st.sending j None;
       ledgers = with_flow st.ledgers d.input j (departing d.bytes (st.ledgers d.input j));
       lists = cond (nat_lt 0 (length (st.lists d.input j))) (with_flow st.lists d.input j (drop 1 (st.lists d.input j))) st.lists;
     }

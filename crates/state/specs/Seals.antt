@@ -1,9 +1,8 @@
 -- The seal of a draft.
-use Rattle.std.specs.Prelude.{ℕ, []}
+use Rattle.std.specs.Prelude.{ℕ, [], None}
 use Rattle.plan.specs.declared.table.Plan as kit
 use Rattle.law.specs.Plans.{plan_of}
 use Rattle.law.specs.Step.{sealed}
-use Rattle.state.specs.declared.line.Line.TheVariants.{Idle}
 use Rattle.state.specs.State.{State, fresh}
 use Rattle.state.specs.Shows.{Moment, AllPromises}
 
@@ -12,8 +11,8 @@ abbrev pub sealed_state : kit.Plan → State
 sealed_state plan = record {
   plan = plan;
   clock = 0;
-  crossing = λ _. Idle;
-  sending = λ _. Idle;
+  crossing = λ _. None;
+  sending = λ _. None;
   ledgers = λ _ _. fresh;
   lists = λ _ _. [];
   counts = λ _ _. 0;

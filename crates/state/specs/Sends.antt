@@ -7,10 +7,9 @@ use Rattle.timing.specs.Marks.{tied}
 use Rattle.store.specs.declared.packet.Packet.{Packet}
 use Rattle.tie.specs.declared.question.Question.{Question}
 use Rattle.law.specs.Rules.{Rule, asked, KeptAfter}
-use Rattle.state.specs.declared.line.Line.TheVariants.{Busy}
 use Rattle.departure.specs.declared.Departure.{Departure}
 use Rattle.state.specs.State.{State, bytes_in}
-use Rattle.state.specs.Lines.{busy_at, to_output, carries, with_line}
+use Rattle.state.specs.Lines.{busy_at, to_output, carries, with_line, busy}
 use Rattle.state.specs.Crosses.{Crossings}
 use Rattle.state.specs.Finishes.{finish_to, listed_to}
 
@@ -68,7 +67,7 @@ departure_of t i j p = record {
 -- the state once this packet of flow (i, j) has started out: it stays in the list until its last byte has passed
 abbrev pub sent_with : Option Packet → State → ℕ → ℕ → State
 sent_with None st i j = st
-sent_with (Some p) st i j = record st { sending = with_line st.sending j (Busy (departure_of st.clock i j p) ((st.clock + p.bytes) % 2 ^ 64)) }
+sent_with (Some p) st i j = record st { sending = with_line st.sending j (busy (departure_of st.clock i j p) ((st.clock + p.bytes) % 2 ^ 64)) }
 
 -- the state once output j has started the oldest packet from the input chosen
 abbrev pub sent_by : Option ℕ → State → ℕ → State

@@ -1,5 +1,5 @@
 -- When a state of the running switch stands for a switch of the law, and what a call makes of a run.
-use Rattle.std.specs.Prelude.{◌≡◌, ℕ, ◌+◌, ◌*◌, ◌%◌, ◌^◌, ◌<◌, ◌≤◌, max, Bool, true, false, cond, ◌&&◌, List, [], ◌∷◌, length, drop, Some, None, Ok, Err, Option, Result, nat_lt, slice_index, slice_index_or}
+use Rattle.std.specs.Prelude.{◌≡◌, ℕ, ◌+◌, ◌*◌, ◌%◌, ◌^◌, ◌<◌, ◌≤◌, max, Bool, true, false, cond, ◌&&◌, List, [], ◌∷◌, length, drop, Some, None, Ok, Err, Option, Result, nat_lt, slice_index, slice_index_or, IfSome}
 use Rattle.plan.specs.Weights.{has_flow}
 use Rattle.plan.specs.Numbers.{arrive_number}
 use Rattle.plan.specs.declared.fault.ArriveFault.{ArriveFault}
@@ -16,11 +16,9 @@ use Rattle.law.specs.Step.{Plan, Switch}
 use Rattle.departure.specs.declared.Departure.{Departure}
 use Rattle.law.specs.Runs.{departure, no_packet, Call, Answer, granted, refused, Run}
 use Rattle.law.specs.Promises.{Promises}
-use Rattle.state.specs.declared.line.Line.{Line}
-use Rattle.state.specs.declared.line.Line.TheVariants.{Idle, Busy}
 use Rattle.state.specs.declared.line.Ledger.{Ledger}
 use Rattle.state.specs.State.{State}
-use Rattle.state.specs.Lines.{until_of, to_output, from_input, loaded_with}
+use Rattle.state.specs.Lines.{until_of, to_output, from_input, loaded_with, Line}
 
 -- the first tick of a list, if there is one
 abbrev pub first_of : List ℕ → Option ℕ
@@ -74,8 +72,7 @@ pub record IsOnLine (t : ℕ) (ps : List Accepted) (vs : List ℕ) (mine : Bool)
 
 -- while the line of output j is busy, it carries the oldest packet inside of one of its flows: its load is that packet's departure
 abbrev pub Loaded : Plan → ℕ → (ℕ → Journeys) → ℕ → Line Departure → Type 0
-Loaded plan t flows j Idle = Unit {0}
-Loaded plan t flows j (Busy d until) = t < until → (d.input < plan.ports) × (d ≡ departure plan d.input j (flows d.input) (departed t (flows d.input)))
+Loaded plan t flows j line = IfSome line (λ b. t < b.until → (b.load.input < plan.ports) × (b.load ≡ departure plan b.load.input j (flows b.load.input) (departed t (flows b.load.input))))
 
 -- The state stands for the switch s of the law, flow by flow and line by line.
 pub record Shows (st : State) (s : Switch) : Type 0 where

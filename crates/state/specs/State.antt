@@ -4,9 +4,9 @@ use Rattle.std.specs.Prelude.{ℕ, List, Some, None, Option}
 use Rattle.plan.specs.declared.table.Plan as kit
 use Rattle.grid.specs.Flows.{flow_in}
 use Rattle.store.specs.declared.packet.Packet.{Packet}
-use Rattle.state.specs.declared.line.Line.{Line}
 use Rattle.state.specs.declared.line.Ledger.{Ledger}
 use Rattle.departure.specs.declared.Departure.{Departure}
+use Rattle.state.specs.Lines.{Line}
 
 -- What is kept of a port or of a flow (i, j), from input i to output j, is a function of the numbers of its ports.
 pub record State : Type 0 where

@@ -1,14 +1,16 @@
 //! Why a report is refused.
 ghost use Rattle.std.specs.Prelude.{◌≡◌};
-ghost use Rattle.state.specs.Reports.{report_number};
+ghost use Rattle.state.specs.Reports.{report_number, of_port};
+
+use plan::PortFault;
 
 /// Why no report on a flow is given.
 #[derive(Clone, Copy, PartialEq, Eq, Debug)]
 pub enum ReportFault {
     /// The input or the output is not below N.
-    Port,
+    Port = 4,
     /// The bytes accepted are not those that have left and those still stored.
-    Unbalanced,
+    Unbalanced = 13,
 }
 
 impl ReportFault {
@@ -16,9 +18,16 @@ impl ReportFault {
     pub fn number(self) -> u8
         ensures { result ≡ report_number self }
     {
-        match self {
-            ReportFault::Port => 4,
-            ReportFault::Unbalanced => 13,
+        self as u8
+    }
+}
+
+impl From<PortFault> for ReportFault {
+    ghost from_gives = { λ fault given. given ≡ of_port fault };
+
+    fn from(fault: PortFault) -> ReportFault {
+        match fault {
+            PortFault::Port => ReportFault::Port,
         }
     }
 }

@@ -12,5 +12,5 @@ mod numbers;
 
 pub use call::{Answer, Call, Listed};
 pub use fault::ReportFault;
-pub use line::{Ledger, Line};
+pub use line::{Busy, Ledger};
 pub use numbers::{Numbers, Report};

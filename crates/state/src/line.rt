@@ -1,19 +1,17 @@
 //! What a running switch keeps of each line, and of each flow.
 use timing::Stamp;
 
-/// A line is idle, or busy with one load until it falls free. It may stay busy past that tick: then it is free too.
+/// What a line is busy with, and until when. A line is kept as an `Option` of it, none while it is idle. One that is kept
+/// past that tick is free too.
 #[derive(Clone, Copy)]
-pub enum Line<T> {
-    Idle,
-    Busy {
-        load: T,
-        /// The tick at which it falls free.
-        until: u64,
-    },
+pub struct Busy<T> {
+    pub load: T,
+    /// The tick at which the line falls free.
+    pub until: u64,
 }
 
 /// What is kept of one flow beside its stored packets. The totals are in bytes since the seal, modulo 2^64.
-#[derive(Clone, Copy)]
+#[derive(Clone, Copy, Default)]
 pub struct Ledger {
     /// The virtual finish of the packet accepted last. It stays when the flow runs empty.
     pub last: Option<Stamp>,

@@ -7,7 +7,7 @@ use crate::flow::ledger_at;
 use crate::lines::is_busy;
 use crate::ready::mark_across;
 use crate::running::Running;
-use state::{Ledger, Line};
+use state::{Busy, Ledger};
 use store::{Packet, Store};
 use tie::{Question, TieRule};
 use timing::{Stamp, choose};
@@ -86,10 +86,10 @@ impl<S: Store, R> Running<S, R> {
             under_way: ledger.under_way.wrapping_add(1),
             ..ledger
         };
-        self.crossing[input] = Line::Busy {
+        self.crossing[input] = Some(Busy {
             load: output,
             until: self.clock.wrapping_add(packet.bytes as u64),
-        };
+        });
     }
 }
 

@@ -3,7 +3,7 @@ ghost use Rattle.switch.specs.Calls.{OpenedAs, OpenedOver, SealedAs, Shares};
 
 use crate::running::Running;
 use plan::{Plan, ShareFault, Size};
-use state::{Ledger, Line};
+use state::Ledger;
 use store::{Numbered, Store};
 
 /// A switch whose shares are still being booked.
@@ -55,16 +55,9 @@ impl<S: Store, R> Draft<S, R> {
         Running {
             plan,
             clock: 0,
-            crossing: [Line::Idle; 16],
-            sending: [Line::Idle; 16],
-            ledgers: [Ledger {
-                last: None,
-                accepted: 0,
-                started: 0,
-                departed: 0,
-                peak: 0,
-                under_way: 0,
-            }; 256],
+            crossing: [None; 16],
+            sending: [None; 16],
+            ledgers: [Ledger::default(); 256],
             store,
             rule,
         }

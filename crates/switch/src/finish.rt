@@ -6,18 +6,18 @@ ghost use Rattle.state.specs.Finishes.{ends_at, leaving, finished, finish_to, li
 use crate::flow::ledger_at;
 use crate::running::Running;
 use departure::Departure;
-use state::{Ledger, Line};
+use state::{Busy, Ledger};
 use store::Store;
 
 // What ends on an output's line at a tick.
-fn ends_at(line: Line<Departure>, tick: u64) -> Option<Departure>
+fn ends_at(line: Option<Busy<Departure>>, tick: u64) -> Option<Departure>
     ensures { result ≡ ends_at tick line }
 {
     match line {
-        Line::Idle => None,
-        Line::Busy { load, until } => {
-            if until == tick && load.input < 16 {
-                Some(load)
+        None => None,
+        Some(busy) => {
+            if busy.until == tick && busy.load.input < 16 {
+                Some(busy.load)
             } else {
                 None
             }
@@ -44,7 +44,7 @@ impl<S: Store, R> Running<S, R> {
             under_way: ledger.under_way.saturating_sub(1),
             ..ledger
         };
-        self.sending[output] = Line::Idle;
+        self.sending[output] = None;
         Some(load)
     }
 

@@ -3,7 +3,7 @@ ghost use Rattle.std.specs.Prelude.{◌≡◌};
 
 use departure::Departure;
 use plan::Plan;
-use state::{Ledger, Line};
+use state::{Busy, Ledger};
 use store::Numbered;
 
 /// A sealed switch: its plan and clock, the line of each input and output, the ledger of each flow, the store with its
@@ -12,8 +12,8 @@ use store::Numbered;
 pub struct Running<S, R> {
     pub(crate) plan: Plan,
     pub(crate) clock: u64,
-    pub(crate) crossing: [Line<usize>; 16],
-    pub(crate) sending: [Line<Departure>; 16],
+    pub(crate) crossing: [Option<Busy<usize>>; 16],
+    pub(crate) sending: [Option<Busy<Departure>>; 16],
     pub(crate) ledgers: [Ledger; 256],
     pub(crate) store: Numbered<S>,
     pub(crate) rule: R,

@@ -10,7 +10,7 @@ use crate::ready::mark_out;
 use crate::running::Running;
 use departure::Departure;
 use plan::{LAST_TICK, StepFault};
-use state::Line;
+use state::Busy;
 use store::{Packet, Store};
 use tie::{Question, TieRule};
 use timing::{Stamp, choose};
@@ -124,10 +124,10 @@ impl<S: Store, R> Running<S, R> {
             return;
         };
         let load = departure_of(packet, input, output, self.clock);
-        self.sending[output] = Line::Busy {
+        self.sending[output] = Some(Busy {
             load,
             until: self.clock.wrapping_add(packet.bytes as u64),
-        };
+        });
     }
 }
 

@@ -1,6 +1,5 @@
-use Rattle.std.proofs.Common.{◌≡◌, length, sym, refl, ◌∙◌, arith, rules}
+use Rattle.std.proofs.Common.{◌≡◌, length, sym, refl, ◌∙◌, arith, rules, None}
 use Rattle.grid.proofs.Flows.{flows_set}
-use Rattle.state.specs.declared.line.Line.TheVariants.{Idle}
 use Rattle.state.specs.State.{fresh}
 use Rattle.switch.specs.Shown.{shown}
 use Rattle.state.proofs.StartInCode.{crossed_is}
@@ -15,7 +14,7 @@ returns g c =
     let n = c.note.ensures in
     record {
       state = crossed_is st c.args.input c.args.output c.ledger_at-ledger.result c.in-Some.packet c.max.result c.note.result _ _ _ _
-          (lines_set Idle s.crossing c.args.input _ (omega (arith, long))) (flows_set fresh s.ledgers c.args.input c.args.output _ (omega arith) (omega arith) (search rules))
+          (lines_set None s.crossing c.args.input _ (omega (arith, long))) (flows_set fresh s.ledgers c.args.input c.args.output _ (omega arith) (omega arith) (search rules))
           c.ledger_at-ledger.ensures (sym c.next_across.ensures ∙ c.in-Some.is) (search rules) n.granted n.lists n.counts;
       size = n.size;
       rule = refl;
