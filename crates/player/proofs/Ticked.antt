@@ -65,7 +65,7 @@ module _ {S R : Type 0} (lists : S → ℕ → ℕ → List Packet) (size : S �
   -- a player after a step is at the moment after the tick
   module _ (p q : Player S R) (old new : List Departure) (long : length old ≡ p.running.plan.size.ports) where
     pub plays_on : (count : ℕ) → Steps lists size kind.answer told p.running q.running old new (Ok count) →
-        take q.count q.list ≡ take count new → q.inside ≡ p.inside - count → q.bytes ≡ (p.bytes + bytes_in (take count new) % 2 ^ 64) % 2 ^ 64 →
+        take q.count q.list ≡ take count new → q.inside ≡ p.inside - count → q.bytes ≡ (p.bytes + bytes_in (take count new)) % 2 ^ 64 →
         (plan : Plan) (x : Replayed R) → Plays lists size plan x p →
         Plays lists size plan (run_tick plan kind x) q × (left_now q ≡ leaves plan (run_tick plan kind x).switch x.switch.clock (x.switch.clock + 1))
     plays_on count s listed-is inside-is bytes-is plan x plays =

@@ -50,15 +50,13 @@ impl NamedStore for Pool {
 
 /// A tie rule of which a winner leaves no choice what it keeps next.
 pub trait NamedRule: TieRule {
-    // what it keeps once it is told a winner
-    ghost next: { Self → ℕ → ℕ → Self };
+    // what it keeps once it is told a winner: the same, if an impl says nothing else
+    ghost next: { Self → ℕ → ℕ → Self } = { unchanged };
 
     ghost keeps_next: { KeepsNext Self.told next };
 }
 
 impl NamedRule for Lowest {
-    ghost next = { unchanged };
-
     ghost keeps_next = { λ kept code winner after same. same };
 }
 
@@ -69,7 +67,5 @@ impl NamedRule for Turn {
 }
 
 impl NamedRule for Longest {
-    ghost next = { unchanged };
-
     ghost keeps_next = { λ kept code winner after same. same };
 }

@@ -1,5 +1,5 @@
 //! A switch that plays a run.
-ghost use Rattle.std.specs.Prelude.{◌≡◌, ◌%◌, ◌^◌, ◌≤◌};
+ghost use Rattle.std.specs.Prelude.{◌≡◌, ◌≤◌, length};
 ghost use Rattle.replay.specs.Events.{bytes_in};
 
 use crate::named::{NamedRule, NamedStore};
@@ -11,6 +11,7 @@ use switch::{Draft, Running, Settled};
 #[derive(Drop)]
 pub struct Player<S, R> {
     running: Running<S, R>,
+    // An array with its count, since a step fills the array where it stands: a vector would be filled from a second array.
     list: [Departure; 16],
     count: usize,
     inside: usize,
@@ -18,15 +19,12 @@ pub struct Player<S, R> {
     ghost few: { count ≤ 16 },
 }
 
-// The bytes of some departures.
+// The bytes of the departures of a tick.
 fn bytes_in(departures: &[Departure]) -> u64
-    ensures { result ≡ bytes_in departures.now % 2 ^ 64 }
+    requires { length departures.now ≤ 16 }
+    ensures { result ≡ bytes_in departures.now }
 {
-    let mut sum = 0u64;
-    for d in departures {
-        sum = sum.wrapping_add(u64::from(d.bytes));
-    }
-    sum
+    departures.iter().map(|d| u64::from(d.bytes)).sum()
 }
 
 impl<S: NamedStore, R: NamedRule> Player<S, R> {

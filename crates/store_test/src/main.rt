@@ -25,9 +25,7 @@ fn main(rt: HostRuntime) -> io::Result<()> {
     let mut plain = Plain::new(rt.alloc());
     let same = agrees(&mut pool, &mut plain, 1200)?;
     println!(rt; "pool {}", verdict(same))?;
-    let same = match incoming() {
-        Some(packet) => counts_up(Rings::new(), packet) && counts_up(pool, packet),
-        None => false,
-    };
+    let same = incoming().is_some_and(|packet| counts_up(Rings::new(), packet)
+        && counts_up(pool, packet));
     println!(rt; "serials {}", verdict(same))
 }

@@ -9,6 +9,12 @@ struct Waiting {
     packet: Packet,
 }
 
+impl Waiting {
+    fn is_of(&self, input: usize, output: usize) -> bool {
+        self.input == input && self.output == output
+    }
+}
+
 /// The packets that wait, oldest first.
 #[derive(Drop)]
 pub struct Plain {
@@ -40,60 +46,40 @@ impl Plain {
         Ok(())
     }
 
-    // Where the k-th oldest packet of a flow stands.
-    fn place(&self, input: usize, output: usize, k: usize) -> Option<usize> {
-        let mut left = k;
-        for (n, w) in self.waiting.iter().enumerate() {
-            if w.input == input && w.output == output {
-                if left == 0 {
-                    return Some(n);
-                }
-                left -= 1;
-            }
-        }
-        None
-    }
-
     pub(crate) fn look(&self, input: usize, output: usize, k: usize) -> Option<Packet> {
-        let n = self.place(input, output, k)?;
-        let w = self.waiting.get(n)?;
-        Some(w.packet)
+        self.waiting
+            .iter()
+            .filter(|w| w.is_of(input, output))
+            .nth(k)
+            .map(|w| w.packet)
     }
 
     pub(crate) fn note(&mut self, input: usize, output: usize, k: usize, tick: u64) -> bool {
-        let Some(n) = self.place(input, output, k) else {
+        let Some(w) = self
+            .waiting
+            .iter_mut()
+            .filter(|w| w.is_of(input, output))
+            .nth(k)
+        else {
             return false;
         };
-        if n >= self.waiting.len() {
-            return false;
-        }
-        let old = self.waiting[n];
-        self.waiting[n] = Waiting {
-            packet: old.packet.started_across(tick),
-            ..old
-        };
+        w.packet = w.packet.started_across(tick);
         true
     }
 
     pub(crate) fn remove(&mut self, input: usize, output: usize) -> bool {
-        let Some(n) = self.place(input, output, 0) else {
+        let Some(n) = self.waiting.iter().position(|w| w.is_of(input, output)) else {
             return false;
         };
-        if n >= self.waiting.len() {
-            return false;
-        }
         self.waiting.remove(n);
         true
     }
 
     pub(crate) fn count(&self, input: usize, output: usize) -> usize {
-        let mut count: usize = 0;
-        for w in self.waiting.iter() {
-            if w.input == input && w.output == output {
-                count = count.saturating_add(1);
-            }
-        }
-        count
+        self.waiting
+            .iter()
+            .filter(|w| w.is_of(input, output))
+            .count()
     }
 
     pub(crate) fn total(&self) -> usize {

@@ -4,12 +4,19 @@ use std::alloc::AllocError;
 use store::{Packet, Store};
 use timing::Stamp;
 
-// A call on flow (input, output), from the next number of a pseudo-random sequence.
+#[derive(Clone, Copy)]
+enum Action {
+    Remove,
+    Note,
+    Put,
+}
+
+// What is done on flow (input, output), from the next number of a pseudo-random sequence.
 #[derive(Clone, Copy)]
 struct Call {
     input: usize,
     output: usize,
-    kind: u64,
+    action: Action,
     k: usize,
 }
 
@@ -25,23 +32,18 @@ fn call_from(seed: u64) -> Call {
     Call {
         input: input as usize,
         output: (high / 16 % 4) as usize,
-        kind: high / 64 % 16,
+        action: match high / 64 % 16 {
+            0..=2 => Action::Remove,
+            3 | 4 => Action::Note,
+            _ => Action::Put,
+        },
         k: (high / 1024 % 4) as usize,
     }
 }
 
-fn alike(p: Packet, q: Packet) -> bool {
-    p.serial == q.serial && p.arrival == q.arrival && p.bytes == q.bytes && p.crossing == q.crossing
-}
-
-fn same(a: Option<Packet>, b: Option<Packet>) -> bool {
-    match a {
-        Some(p) => match b {
-            Some(q) => alike(p, q),
-            None => false,
-        },
-        None => b.is_none(),
-    }
+// What both keep of a packet.
+fn kept(packet: Packet) -> (u64, u64, u32, Option<u64>) {
+    (packet.serial, packet.arrival, packet.bytes, packet.crossing)
 }
 
 fn packet(serial: u64) -> Option<Packet> {
@@ -84,16 +86,23 @@ fn step<S: Store>(
     if few && store.is_full(call.input, call.output) {
         return Ok(false);
     }
-    let agreed = match call.kind {
-        0 | 1 | 2 => store.remove(call.input, call.output) == plain.remove(call.input, call.output),
-        3 | 4 => store.note(call.input, call.output, call.k, serial)
-            == plain.note(call.input, call.output, call.k, serial),
-        _ => put_both(store, plain, call, serial)?,
+    let Call {
+        input,
+        output,
+        action,
+        k,
+    } = call;
+    let agreed = match action {
+        Action::Remove => store.remove(input, output) == plain.remove(input, output),
+        Action::Note => {
+            store.note(input, output, k, serial) == plain.note(input, output, k, serial)
+        }
+        Action::Put => put_both(store, plain, call, serial)?,
     };
-    let seen = store.look(call.input, call.output, call.k);
-    let listed = plain.look(call.input, call.output, call.k);
-    let counts = store.count(call.input, call.output) == plain.count(call.input, call.output);
-    Ok(agreed && counts && same(seen, listed))
+    let seen = store.look(input, output, k).map(kept);
+    let listed = plain.look(input, output, k).map(kept);
+    let counts = store.count(input, output) == plain.count(input, output);
+    Ok(agreed && counts && seen == listed)
 }
 
 // Whether a store agrees with a plain list over a sequence of calls, then over as many again after a clear.
@@ -109,9 +118,7 @@ pub(crate) fn agrees<S: Store>(
         plain.clear();
         for n in 0..calls {
             seed = next_seed(seed);
-            if !step(store, plain, call_from(seed), n)? {
-                all = false;
-            }
+            all &= step(store, plain, call_from(seed), n)?;
         }
     }
     Ok(all)

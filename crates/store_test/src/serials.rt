@@ -36,14 +36,8 @@ where
     S: Drop,
 {
     let mut numbered = Numbered::new(store);
-    let mut all = true;
-    for _ in 0..2 {
+    (0..2).all(|_| {
         numbered.clear();
-        for n in 0..600u64 {
-            if pass(&mut numbered, incoming) != Some(n) {
-                all = false;
-            }
-        }
-    }
-    all
+        (0..600u64).all(|n| pass(&mut numbered, incoming) == Some(n))
+    })
 }

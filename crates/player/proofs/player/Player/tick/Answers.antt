@@ -1,6 +1,5 @@
-use Rattle.std.proofs.Common.{◌≡◌, ℕ, ◌+◌, ◌-◌, ◌%◌, ◌^◌, ◌≤◌, List, ◌++◌, length, take, drop, ap, ◌∙◌, arith}
+use Rattle.std.proofs.Common.{◌≡◌, ℕ, ◌+◌, ◌-◌, ◌%◌, ◌^◌, ◌≤◌, ◌++◌, length, take, drop, ap, ◌∙◌, arith}
 use Rattle.std.proofs.lemmas.List.{length-take-le, take-append-le}
-use Rattle.departure.specs.declared.Departure.{Departure}
 use Rattle.plan.specs.declared.table.Plan.{Plan}
 use Rattle.player.proofs.Ticked.{plays_on}
 use Rattle.replay.specs.Events.{bytes_in}
@@ -24,4 +23,4 @@ returns g c plan first x plays early =
     let within : count ≤ length new = omega (arith, done.few, done.entries) in
     plays_on g.S.Store.lists g.S.Store.size kind g.R.TieRule.told g.met.R.NamedRule.keeps_next g.met.R.TieRule.picks_tied p _ (take (n - 0) p.list) new (long ∙ omega (arith, ports)) count done
     (take-append-le count new rest within) c.saturating_sub-self.ensures
-    (ap (λ (b : ℕ). (p.bytes + b) % 2 ^ 64) (c.bytes_in.ensures ∙ ap (λ (ds : List Departure). bytes_in ds % 2 ^ 64) (ap (λ (k : ℕ). take k (new ++ rest)) whole ∙ take-append-le count new rest within))) plan x plays
+    (ap (λ (b : ℕ). (p.bytes + b) % 2 ^ 64) (c.bytes_in.ensures ∙ ap bytes_in (ap (λ (k : ℕ). take k (new ++ rest)) whole ∙ take-append-le count new rest within))) plan x plays
