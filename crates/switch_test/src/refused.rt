@@ -7,9 +7,7 @@ use switch::{Departure, Draft, Running};
 use tie::Lowest;
 
 fn sealed<S: Store + Drop>(store: S) -> Option<Running<S, Lowest>> {
-    let Ok(size) = Size::new(2, 6, 4) else {
-        return None;
-    };
+    let size = Size::new(2, 6, 4).ok()?;
     let mut draft = Draft::open(size, store, Lowest);
     let _ = draft.share(0, 1, 3);
     Some(draft.seal())
@@ -21,10 +19,10 @@ fn step_on<S: Store>(
     switch: &mut Running<S, Lowest>,
     entries: usize,
 ) -> io::Result<()> {
-    let mut list = [Departure::default(); 5];
-    for d in list.iter_mut() {
-        d.tick = 77;
-    }
+    let mut list = [Departure {
+        tick: 77,
+        ..Departure::default()
+    }; 5];
     let room = entries.min(5);
     match switch.step(&mut list[0..room]) {
         Ok(count) => println!(rt; "step on {room}: {count}")?,
@@ -67,12 +65,7 @@ pub fn fill<S: Store + Drop>(rt: &impl Print, store: S, most: usize) -> io::Resu
     let Some(mut switch) = sealed(store) else {
         return Ok(());
     };
-    let mut accepted = 0u32;
-    for _ in 0..most {
-        if switch.arrive(0, 1, 1).is_ok() {
-            accepted = accepted.saturating_add(1);
-        }
-    }
+    let accepted = (0..most).filter(|_| switch.arrive(0, 1, 1).is_ok()).count();
     println!(rt; "accepted {accepted}")?;
     arrive(rt, &mut switch, 0, 1, 1)?;
     arrive(rt, &mut switch, 0, 1, 7)?;

@@ -1,5 +1,5 @@
 //! Makes a call and prints its answer.
-use std::io;
+use std::{fmt, io};
 use store::Store;
 use switch::{Departure, Running};
 use tie::TieRule;
@@ -21,20 +21,28 @@ pub fn arrive<S: Store, R>(
     }
 }
 
-fn departure(rt: &impl Print, d: &Departure) -> io::Result<()> {
-    println!(rt;
-        "  tick {} flow {} {} serial {} arrival {} crossing {} sending {} finish {} + {}/w bytes {}",
-        d.tick,
-        d.input,
-        d.output,
-        d.serial,
-        d.arrival,
-        d.crossing,
-        d.sending,
-        d.whole,
-        d.numerator,
-        d.bytes
-    )
+// A departure as it is printed.
+#[derive(Clone, Copy)]
+struct Shown<'a>(&'a Departure);
+
+impl fmt::Display for Shown<'_> {
+    fn fmt<W: fmt::Write>(&self, f: &mut fmt::Formatter<W>) -> fmt::Result {
+        let d = self.0;
+        write!(
+            f,
+            "tick {} flow {} {} serial {} arrival {} crossing {} sending {} finish {} + {}/w bytes {}",
+            d.tick,
+            d.input,
+            d.output,
+            d.serial,
+            d.arrival,
+            d.crossing,
+            d.sending,
+            d.whole,
+            d.numerator,
+            d.bytes
+        )
+    }
 }
 
 /// A step on a list of four entries: the answer, and the entries that it names.
@@ -44,7 +52,7 @@ pub fn step<S: Store, R: TieRule>(rt: &impl Print, switch: &mut Running<S, R>) -
         Ok(count) => {
             println!(rt; "step: {count}")?;
             for d in list.iter().take(count) {
-                departure(rt, d)?;
+                println!(rt; "  {}", Shown(d))?;
             }
             Ok(())
         }
