@@ -6,9 +6,6 @@ use Rattle.plan.specs.Refusals.{arrive_refusal}
 use Rattle.plan.specs.declared.fault.ArriveFault.{ArriveFault}
 use Rattle.plan.specs.declared.fault.ArriveFault.TheVariants as fault
 
-pub some≢none : {X : Type 0} {x : X} → Some x ≡ None → ⊥
-some≢none e = let z : ◌≡◌ {A = ℕ} 0 1 = cc in omega arith
-
 -- an arrival that is lawful
 pub record Lawful (plan : Plan) (i j b : ℕ) : Type 0 where
   pub input_in : i < plan.ports
@@ -18,11 +15,11 @@ pub record Lawful (plan : Plan) (i j b : ℕ) : Type 0 where
   pub is_open : 0 < plan.weight i j
 
 tests : (a c d e f : Bool) → cond {A = Option ArriveFault} (a && c) (cond (d || e) (Some fault.Length) (cond f (Some fault.Closed) None)) (Some fault.Port) ≡ None → (a ≡ true) × (c ≡ true) × (d ≡ false) × (e ≡ false) × (f ≡ false)
-tests false c d e f h = absurd (some≢none h)
-tests true false d e f h = absurd (some≢none h)
-tests true true true e f h = absurd (some≢none h)
-tests true true false true f h = absurd (some≢none h)
-tests true true false false true h = absurd (some≢none h)
+tests false c d e f h = absurd (cc)
+tests true false d e f h = absurd (cc)
+tests true true true e f h = absurd (cc)
+tests true true false true f h = absurd (cc)
+tests true true false false true h = absurd (cc)
 tests true true false false false h = (refl, refl, refl, refl, refl)
 
 pub lawful : (plan : Plan) (i j b : ℕ) → arrive_refusal plan.ports plan.longest plan.weight i j b ≡ None → Lawful plan i j b

@@ -1,4 +1,5 @@
 -- What a step chooses by the marks of a line is what the line may start.
+use Rattle.std.proofs.lemmas.Option.{none-some}
 use Rattle.std.proofs.Common.{◌≡◌, ℕ, ◌+◌, ◌-◌, ◌*◌, ◌<◌, ◌≤◌, Bool, true, false, eqb, ltb, List, [], ◌∷◌, map, length, get_or, Some, None, Option, sym, refl, ap, ◌∙◌, subst, ⊎_elim, arith}
 use Rattle.std.proofs.lemmas.List.FromFn.{get_or-map-range_with_len, length-map-range_with_len}
 use Rattle.std.proofs.lemmas.List.{get_or_past}
@@ -9,9 +10,6 @@ use Rattle.law.specs.Port.{Head}
 use Rattle.law.proofs.LineSteps as line
 use Rattle.law.specs.Step.{VirtualFinish, sooner, mark_of, Chosen, LineStarts, names, with_start, head_bytes, busy_until}
 
-none≢some : {X : Type 0} {x : X} → None ≡ Some x → ⊥
-none≢some e = let z : ◌≡◌ {A = ℕ} 0 1 = cc in omega arith
-
 -- a mark stands where the head is ready
 pub record Marked (W w : ℕ) (ready : Queued → Bool) (ps : List Queued) (m : VirtualFinish) : Type 0 where
   pub head : Queued
@@ -21,13 +19,13 @@ pub record Marked (W w : ℕ) (ready : Queued → Bool) (ps : List Queued) (m : 
   pub is_mark : m ≡ record { scaled = finish W head; weight = w }
 
 marked : (W w : ℕ) (ready : Queued → Bool) (ps : List Queued) (m : VirtualFinish) → mark_of W w ready ps ≡ Some m → Marked W w ready ps m
-marked W w ready [] m e = absurd (none≢some e)
+marked W w ready [] m e = absurd (none-some _ e)
 marked W w ready (a ∷ more) m e =
     ⊎_elim
     (λ (t : ready a ≡ true).
     let f : ◌≡◌ {A = Option VirtualFinish} (Some record { scaled = finish W a; weight = w }) (Some m) = sym (cond-true _ _ _ t) ∙ e in
     record { head = a; rest = more; is_head = refl; is_ready = t; is_mark = cc })
-    (λ (t : ready a ≡ false). absurd (none≢some (sym (cond-false _ _ _ t) ∙ e)))
+    (λ (t : ready a ≡ false). absurd (none-some _ (sym (cond-false _ _ _ t) ∙ e)))
     (cases_Bool (ready a))
 
 module _ (W n : ℕ) (weight : ℕ → ℕ) (waiting : ℕ → List Queued) (ready : ℕ → Queued → Bool) where
@@ -43,7 +41,7 @@ module _ (W n : ℕ) (weight : ℕ → ℕ) (waiting : ℕ → List Queued) (rea
       (λ (h : k < n). h)
       (λ (h : n ≤ k).
       let long : length (map mark (range_with_len 0 n)) ≤ k = rw length-map-range_with_len h in
-      absurd (none≢some (sym (get_or_past (map mark (range_with_len 0 n)) k None long) ∙ e)))
+      absurd (none-some _ (sym (get_or_past (map mark (range_with_len 0 n)) k None long) ∙ e)))
       (cases_lt k n)
 
   -- nothing is chosen: no head is ready
@@ -53,7 +51,7 @@ module _ (W n : ℕ) (weight : ℕ → ℕ) (waiting : ℕ → List Queued) (rea
       ⊎_elim
       (λ (t : ready k a ≡ true).
       let f : mark_of W (weight k) (ready k) (a ∷ more) ≡ None = ap (mark_of W (weight k) (ready k)) (sym is) ∙ e in
-      absurd (none≢some (sym f ∙ cond-true _ _ _ t)))
+      absurd (none-some _ (sym f ∙ cond-true _ _ _ t)))
       (λ t. t)
       (cases_Bool (ready k a))
 

@@ -1,4 +1,5 @@
 -- Every moment of every run keeps the promises.
+use Rattle.std.proofs.lemmas.Option.{none-some}
 use Rattle.std.proofs.Common.{◌≡◌, ℕ, ◌+◌, ◌-◌, ◌*◌, ◌<◌, ◌≤◌, Bool, true, false, cond, ltb, ◌⊎◌, List, [], ◌∷◌, ◌++◌, map, length, get_or, None, sum_by, sum, sym, refl, ap, ◌∙◌, subst, inl, inr, ⊎_elim, mul-le-mul_right, mul-le-mul_left, arith}
 use Rattle.std.proofs.lemmas.List.FromFn.{length-map-range_with_len}
 use Rattle.std.proofs.lemmas.List.Sums.{sum-map}
@@ -19,7 +20,7 @@ use Rattle.law.specs.Promises.{clock_of, accepted_of, departures_of, InStep, Pro
 use Rattle.law.proofs.EndedPackets.{ended_le_starts, ended_le_packets}
 use Rattle.law.proofs.StampsOfFlow.{stamp_at_bytes}
 use Rattle.law.proofs.LogOfFlow.{Told, told_other}
-use Rattle.law.proofs.LawfulArrivals.{lawful, some≢none}
+use Rattle.law.proofs.LawfulArrivals.{lawful}
 use Rattle.law.proofs.SwitchInvariant.{Moment, late, begun_by, moment_seal, moment_arrives, moment_ticks, output_waits}
 use Rattle.law.proofs.PacketsInside.{none_inside, one_more_inside, no_more_inside}
 use Rattle.law.proofs.Peaks.{bytes_between, in_order, Peaked, peaked_seal, peaked_arrives, peaked_ticks, held_as_told, peak_covers_held, first_at, first_crossed}
@@ -132,7 +133,7 @@ module _ (plan : Plan) (M : ℕ) (bookable : Bookable plan) where
   granted_or_full at_seal = tt
   granted_or_full (accepts i j b d e room) = λ _. inl refl
   granted_or_full (is_full {log = log} {s = s} i j b d e full) = λ _. inr (omega (arith, inside_as_told {log = log} {s = s} (moment d)))
-  granted_or_full (is_unlawful i j b f d e) = λ none. absurd (some≢none (sym e ∙ none))
+  granted_or_full (is_unlawful i j b f d e) = λ none. absurd (none-some _ (sym none ∙ e))
   granted_or_full (ticks room cross send d e st) = tt
   granted_or_full (no_tick room f d e) = tt
   granted_or_full (asks i j d e) = tt

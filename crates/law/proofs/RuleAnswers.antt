@@ -1,4 +1,5 @@
 -- A tie rule's answers are starts of a step.
+use Rattle.std.proofs.lemmas.Option.{none-some}
 use Rattle.std.proofs.Common.{◌≡◌, ℕ, zero, suc, ◌+◌, ◌*◌, ◌<◌, ◌≤◌, Bool, true, false, cond, ltb, ◌⊎◌, List, [], ◌∷◌, map, length, get_or, drop, Some, None, Option, sym, refl, ap, ◌∙◌, subst, inl, inr, ⊎_elim, arith}
 use Rattle.std.proofs.lemmas.List.FromFn.{get_or-map-range_with_len, length-map-range_with_len}
 use Rattle.std.proofs.lemmas.List.{get_or_past, length-drop}
@@ -16,9 +17,6 @@ use Rattle.law.specs.Rules.{Rule, AnswersTied, asked, of_16, input_question, out
 use Rattle.law.proofs.PromisesKept.{moment}
 use Rattle.law.proofs.StampsOfFlow.{stamps_length}
 use Rattle.law.proofs.Lists.{all_map_counting}
-
-none≢some : {X : Type 0} {x : X} → None ≡ Some x → ⊥
-none≢some e = let z : ◌≡◌ {A = ℕ} 0 1 = cc in omega arith
 
 -- a mark is of an open flow
 abbrev pub OpenMark : Option VirtualFinish → Type 0
@@ -49,7 +47,7 @@ some_first (None ∷ row) all =
     after none (suc k) = none k
 
     behind : (m : VirtualFinish) → ((j : ℕ) (x : VirtualFinish) → get_or row j None ≡ Some x → sooner x m ≡ false) → (j : ℕ) (x : VirtualFinish) → get_or (None ∷ row) j None ≡ Some x → sooner x m ≡ false
-    behind m h zero x e = absurd (none≢some e)
+    behind m h zero x e = absurd (none-some _ e)
     behind m h (suc j) x e = h j x e
 some_first (Some d ∷ row) all =
     ⊎_elim
@@ -65,7 +63,7 @@ some_first (Some d ∷ row) all =
 
     alone : Empty row → (j : ℕ) (x : VirtualFinish) → get_or (Some d ∷ row) j None ≡ Some x → sooner x d ≡ false
     alone none zero x e = ap (λ (v : VirtualFinish). sooner v d) (sym (here x e)) ∙ itself
-    alone none (suc j) x e = absurd (none≢some (sym (none j) ∙ e))
+    alone none (suc j) x e = absurd (none-some _ (sym (none j) ∙ e))
 
     choose : (k : ℕ) (m : VirtualFinish) → get_or row k None ≡ Some m → ((j : ℕ) (x : VirtualFinish) → get_or row j None ≡ Some x → sooner x m ≡ false) → OpenMark (get_or row k None) →
         Empty (Some d ∷ row) ⊎ ((i : ℕ) × First sooner (Some d ∷ row) i × OpenMark (get_or (Some d ∷ row) i None))
@@ -87,7 +85,7 @@ in_row : (row : List (Option VirtualFinish)) (k : ℕ) (m : VirtualFinish) → g
 in_row row k m e =
     ⊎_elim
     (λ (h : k < length row). h)
-    (λ (h : length row ≤ k). absurd (none≢some (sym (get_or_past row k None h) ∙ e)))
+    (λ (h : length row ≤ k). absurd (none-some _ (sym (get_or_past row k None h) ∙ e)))
     (cases_lt k (length row))
 
 -- whoever picks tied positions answers with them

@@ -27,8 +27,7 @@ sum_none [] = refl
 sum_none {X} (x ∷ xs) = omega (arith, sum_none xs, sum_by-cons (λ (y : X). 0) x xs)
 
 sum_alike : {X : Type 0} (f g : X → ℕ) (xs : List X) → ((x : X) → f x ≡ g x) → sum_by f xs ≡ sum_by g xs
-sum_alike f g [] same = refl
-sum_alike f g (x ∷ xs) same = omega (arith, sum_alike f g xs same, sum_by-cons f x xs, sum_by-cons g x xs, same x)
+sum_alike f g xs same = λ k. sum_by (λ x. same x k) xs
 
 -- rows first, or columns first
 sum_turned : (f : ℕ → ℕ → ℕ) (xs ys : List ℕ) → sum_by (λ j. sum_by (λ i. f i j) xs) ys ≡ sum_by (λ i. sum_by (λ j. f i j) ys) xs

@@ -32,28 +32,22 @@ use Rattle.player.specs.declared.player.Player.{Player}
 use Rattle.player.specs.Plays.{IsAt, Plays, Answers, kind_with}
 use Rattle.player.proofs.Inside.{arrival_inside}
 
-ok≢err : {X E : Type 0} {x : X} {e : E} → ◌≡◌ {A = Result X E} (Ok x) (Err e) → ⊥
-ok≢err e = let z : ◌≡◌ {A = ℕ} 0 1 = cc in omega arith
-
-some≢none : {X : Type 0} {x : X} → Some x ≡ None → ⊥
-some≢none e = let z : ◌≡◌ {A = ℕ} 0 1 = cc in omega arith
-
 -- an answer tells the refusal
 granted_none : (o p : Option ArriveFault) (u : Unit {0}) → Ok u ≡ unless {X = Unit {0}} (option_or o p) tt → o ≡ None
 granted_none None p u e = refl
-granted_none (Some f) p u e = absurd (ok≢err e)
+granted_none (Some f) p u e = absurd (cc)
 
 refused_some : (o : Option ArriveFault) (room : Bool) (f : ArriveFault) → Err f ≡ unless {X = Unit {0}} (option_or o (cond room None (Some Full))) tt → (o ≡ Some f) ⊎ ((o ≡ None) × (f ≡ Full))
 refused_some (Some g) room f e = inl (cc)
-refused_some None true f e = absurd (ok≢err (sym e))
+refused_some None true f e = absurd (cc)
 refused_some None false f e = inr (refl, (cc))
 
 -- the plan refuses nothing for a full store
 never_full : (a b c : Bool) → cond a (cond b (Some Length) (cond c (Some Closed) None)) (Some Port) ≡ Some Full → ⊥
-never_full true true c e = let z : ◌≡◌ {A = ℕ} 0 1 = cc in omega arith
-never_full true false true e = let z : ◌≡◌ {A = ℕ} 0 1 = cc in omega arith
-never_full true false false e = let z : ◌≡◌ {A = ℕ} 0 1 = cc in omega arith
-never_full false b c e = let z : ◌≡◌ {A = ℕ} 0 1 = cc in omega arith
+never_full true true c e = cc
+never_full true false true e = cc
+never_full true false false e = cc
+never_full false b c e = cc
 
 module _ {S R : Type 0} (lists : S → ℕ → ℕ → List Packet) (full : S → ℕ → ℕ → Bool) (size : S → ℕ) (kind : Kind R)
     (signs : (store : S) (plan : Plan) (s : Switch) → Holds (lists store) plan s → (i j : ℕ) → i < plan.ports → j < plan.ports → full store i j ≡ kind.sign plan s i j)
@@ -92,7 +86,7 @@ module _ {S R : Type 0} (lists : S → ℕ → ℕ → List Packet) (full : S �
       let law = lawful booked i j b none in
       let carried = s.law x.log x.switch at.moment in
       let down : full before.store.store i j ≡ false =
-      ⊎_elim (λ (up : full before.store.store i j ≡ true). absurd (ok≢err ((carried.1.signed none).1 up))) (λ (d : full before.store.store i j ≡ false). d) (cases_Bool (full before.store.store i j)) in
+      ⊎_elim (λ (up : full before.store.store i j ≡ true). let ok_is_err = (carried.1.signed none).1 up in absurd (cc)) (λ (d : full before.store.store i j ≡ false). d) (cases_Bool (full before.store.store i j)) in
       let sign = sym (sign_is none) ∙ down in
       let y : Replayed R = record { switch = arrived x.switch i j b; kept = x.kept; log = (arrive i j b, granted) ∷ x.log } in
       let is : offered booked kind a x ≡ y = cond-false _ _ y sign in
@@ -211,9 +205,9 @@ module _ {S R : Type 0} (lists : S → ℕ → ℕ → List Packet) (full : S �
 
   told : (f : ArriveFault) → Arrives lists full size p.running q.running i j b (Err f) → (x : Replayed R) → Tells f (plan_of p.running.plan) x
   told Full s x was = turned_at_its_plan lists full size (kind_with sign answer next first) signs p q i j b t inside-is bytes-is x s was
-  told Port s x was = unlawful_at_its_plan lists full size (kind_with sign answer next first) signs p q i j b t inside-is bytes-is x Port (λ e. let z : ◌≡◌ {A = ℕ} 0 1 = cc in omega arith) s was
-  told Length s x was = unlawful_at_its_plan lists full size (kind_with sign answer next first) signs p q i j b t inside-is bytes-is x Length (λ e. let z : ◌≡◌ {A = ℕ} 0 1 = cc in omega arith) s was
-  told Closed s x was = unlawful_at_its_plan lists full size (kind_with sign answer next first) signs p q i j b t inside-is bytes-is x Closed (λ e. let z : ◌≡◌ {A = ℕ} 0 1 = cc in omega arith) s was
+  told Port s x was = unlawful_at_its_plan lists full size (kind_with sign answer next first) signs p q i j b t inside-is bytes-is x Port (λ e. cc) s was
+  told Length s x was = unlawful_at_its_plan lists full size (kind_with sign answer next first) signs p q i j b t inside-is bytes-is x Length (λ e. cc) s was
+  told Closed s x was = unlawful_at_its_plan lists full size (kind_with sign answer next first) signs p q i j b t inside-is bytes-is x Closed (λ e. cc) s was
 
   pub plays_refused : (f : ArriveFault) → Arrives lists full size p.running q.running i j b (Err f) → (plan : Plan) (x : Replayed R) → Tells f plan x
   plays_refused f s plan x plays = subst (λ v. Tells f v x) plays.switch.plan_is (told f s x) plays

@@ -1,6 +1,8 @@
 -- The next tick at which something may happen (`next_event`): all ticks before it are quiet, and it is not.
+use Rattle.state.proofs.ShownFlows.{busy_until}
+use Rattle.std.proofs.lemmas.Option.{none-some}
 use Rattle.std.proofs.Common.{◌≡◌, ℕ, zero, suc, ◌+◌, ◌-◌, ◌<◌, ◌≤◌, min, max, true, false, cond, ◌⊎◌, Some, None, Option, sym, refl, ap, ◌∙◌, subst, inl, inr, ⊎_elim, add-one, arith}
-use Rattle.std.proofs.lemmas.Bool.{cases_eq, cases_lt, cases_Bool, le-ltb, ltb-true, ltb-false, true≢false}
+use Rattle.std.proofs.lemmas.Bool.{cases_eq, cases_lt, cases_Bool, le-ltb, ltb-true, ltb-false}
 use Rattle.plan.specs.declared.fault.TheConstants.{LAST_TICK}
 use Rattle.store.specs.declared.packet.Packet.{Packet}
 use Rattle.state.specs.State.{State}
@@ -130,12 +132,10 @@ out_not : (L t : ℕ) (o : Option Packet) → ((x : ℕ) → out_from L o ≡ So
 out_not L t o h = sym (ready_out L t o) ∙ not_ready t o (out_from L o) h
 
 busy_from : {X : Type 0} (t : ℕ) (line : Line X) → busy_at t line ≡ false → until_of line ≤ t
-busy_from t None e = omega arith
-busy_from t (Some b) e = ltb-false t b.until e
+busy_from t line e = ltb-false t (until_of line) (sym (busy_until t line) ∙ e)
 
 busy_to : {X : Type 0} (t : ℕ) (line : Line X) → busy_at t line ≡ true → t < until_of line
-busy_to t None e = absurd (true≢false (sym e))
-busy_to t (Some b) e = ltb-true t b.until e
+busy_to t line e = ltb-true t (until_of line) (sym (busy_until t line) ∙ e)
 
 pub still_until : (st : State) (limit t : ℕ) → st.clock ≤ t → t < next_event st limit → Still (at_tick t st)
 still_until st limit t from before =
@@ -238,20 +238,16 @@ module _ (st : State) where
       (λ (d : DueOut st (output_next st n (outputs_next st n best))). inr d)
       (output_is n (outputs_next st n best) (omega (arith, l)))
 
-none≢some : {X : Type 0} {x : X} → None ≡ Some x → ⊥
-none≢some e = let z : ◌≡◌ {A = ℕ} 0 1 = cc in omega arith
-
 across_yes : (t x : ℕ) (o : Option Packet) → across_from o ≡ Some x → x ≤ t → mark_across t o ≡ None → ⊥
-across_yes t x None e l m = none≢some e
-across_yes t x (Some p) e l m = none≢some (sym m ∙ sym (ready_across t (Some p)) ∙ is_ready t x p (across_from (Some p)) e l)
+across_yes t x None e l m = none-some _ e
+across_yes t x (Some p) e l m = none-some _ (sym m ∙ sym (ready_across t (Some p)) ∙ is_ready t x p (across_from (Some p)) e l)
 
 out_yes : (L t x : ℕ) (o : Option Packet) → out_from L o ≡ Some x → x ≤ t → mark_out L t o ≡ None → ⊥
-out_yes L t x None e l m = none≢some e
-out_yes L t x (Some p) e l m = none≢some (sym m ∙ sym (ready_out L t (Some p)) ∙ is_ready t x p (out_from L (Some p)) e l)
+out_yes L t x None e l m = none-some _ e
+out_yes L t x (Some p) e l m = none-some _ (sym m ∙ sym (ready_out L t (Some p)) ∙ is_ready t x p (out_from L (Some p)) e l)
 
 busy_not : {X : Type 0} (t : ℕ) (line : Line X) → until_of line ≤ t → busy_at t line ≡ false
-busy_not t None l = refl
-busy_not t (Some b) l = le-ltb t b.until l
+busy_not t line l = busy_until t line ∙ le-ltb t (until_of line) l
 
 due_across : (st : State) (x t : ℕ) → DueAcross st x → x ≤ t → Still (at_tick t st) → ⊥
 due_across st x t d l still =

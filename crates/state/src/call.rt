@@ -24,6 +24,7 @@ pub enum Call {
 }
 
 /// What a step lists: the first `count` of these departures.
+// An array with its count: no memory is allocated for a listing, and an answer is Copy, as no vector is.
 #[derive(Clone, Copy)]
 pub struct Listed {
     pub departures: [Departure; 16],
