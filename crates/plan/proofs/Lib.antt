@@ -1,3 +1,4 @@
 pub mod Changed
 pub mod Shares
 pub mod Refused
+pub mod Sums

@@ -1,16 +1,18 @@
 //! What a plan, and a switch over it, refuse, and the number of each refusal.
 ghost use Rattle.std.specs.Prelude.{◌≡◌};
+ghost use Rattle.plan.specs.declared.fault.ShareFault.TheVariants as share;
+ghost use Rattle.plan.specs.declared.fault.ArriveFault.TheVariants as arrive;
 ghost use Rattle.plan.specs.Numbers.{size_number, share_number, port_number, arrive_number, step_number};
 
 /// A size that is not accepted.
 #[derive(Clone, Copy, PartialEq, Eq, Debug)]
 pub enum SizeFault {
     /// N is not 1 to 16
-    Ports,
+    Ports = 1,
     /// L is not 1 to 1,500
-    Longest,
+    Longest = 2,
     /// W is not 1 to 10,000
-    Parts,
+    Parts = 3,
 }
 
 impl SizeFault {
@@ -18,11 +20,7 @@ impl SizeFault {
     pub fn number(self) -> u8
         ensures { result ≡ size_number self }
     {
-        match self {
-            SizeFault::Ports => 1,
-            SizeFault::Longest => 2,
-            SizeFault::Parts => 3,
-        }
+        self as u8
     }
 }
 
@@ -30,13 +28,13 @@ impl SizeFault {
 #[derive(Clone, Copy, PartialEq, Eq, Debug)]
 pub enum ShareFault {
     /// the input or the output is not below N
-    Port,
+    Port = 4,
     /// the weight is above W
-    Weight,
+    Weight = 5,
     /// the input's weights would sum to more than W
-    Row,
+    Row = 6,
     /// the output's weights would sum to more than W
-    Column,
+    Column = 7,
 }
 
 impl ShareFault {
@@ -44,19 +42,14 @@ impl ShareFault {
     pub fn number(self) -> u8
         ensures { result ≡ share_number self }
     {
-        match self {
-            ShareFault::Port => 4,
-            ShareFault::Weight => 5,
-            ShareFault::Row => 6,
-            ShareFault::Column => 7,
-        }
+        self as u8
     }
 }
 
 /// A question about a port that is not below N.
 #[derive(Clone, Copy, PartialEq, Eq, Debug)]
 pub enum PortFault {
-    Port,
+    Port = 4, // as in ShareFault and ArriveFault
 }
 
 impl PortFault {
@@ -64,9 +57,7 @@ impl PortFault {
     pub fn number(self) -> u8
         ensures { result ≡ port_number self }
     {
-        match self {
-            PortFault::Port => 4,
-        }
+        self as u8
     }
 }
 
@@ -74,13 +65,13 @@ impl PortFault {
 #[derive(Clone, Copy, PartialEq, Eq, Debug)]
 pub enum ArriveFault {
     /// the input or the output is not below N
-    Port,
+    Port = 4,
     /// the length is not 1 to L
-    Length,
+    Length = 8,
     /// the flow has weight 0
-    Closed,
+    Closed = 9,
     /// the store's sign of the flow is up
-    Full,
+    Full = 10,
 }
 
 impl ArriveFault {
@@ -88,11 +79,26 @@ impl ArriveFault {
     pub fn number(self) -> u8
         ensures { result ≡ arrive_number self }
     {
-        match self {
-            ArriveFault::Port => 4,
-            ArriveFault::Length => 8,
-            ArriveFault::Closed => 9,
-            ArriveFault::Full => 10,
+        self as u8
+    }
+}
+
+impl From<PortFault> for ShareFault {
+    ghost from_gives = { λ _ f. f ≡ share.Port };
+
+    fn from(fault: PortFault) -> ShareFault {
+        match fault {
+            PortFault::Port => ShareFault::Port,
+        }
+    }
+}
+
+impl From<PortFault> for ArriveFault {
+    ghost from_gives = { λ _ f. f ≡ arrive.Port };
+
+    fn from(fault: PortFault) -> ArriveFault {
+        match fault {
+            PortFault::Port => ArriveFault::Port,
         }
     }
 }
@@ -104,9 +110,9 @@ pub const LAST_TICK: u64 = 0xff_ffff_ffff;
 #[derive(Clone, Copy, PartialEq, Eq, Debug)]
 pub enum StepFault {
     /// the list for departures is shorter than N
-    Short,
+    Short = 11,
     /// the clock stands at its last tick
-    Last,
+    Last = 12,
 }
 
 impl StepFault {
@@ -114,9 +120,6 @@ impl StepFault {
     pub fn number(self) -> u8
         ensures { result ≡ step_number self }
     {
-        match self {
-            StepFault::Short => 11,
-            StepFault::Last => 12,
-        }
+        self as u8
     }
 }

@@ -23,13 +23,13 @@ impl Size {
     pub fn new(ports: usize, longest: u32, parts: u32) -> Result<Size, SizeFault>
         ensures { MatchResult result (λ s. (size_refusal ports longest parts ≡ None) × (s.ports ≡ ports) × (s.longest ≡ longest) × (s.parts ≡ parts)) (λ f. size_refusal ports longest parts ≡ Some f) }
     {
-        if ports < 1 || ports > 16 {
+        if !(1..=16).contains(&ports) {
             return Err(SizeFault::Ports);
         }
-        if longest < 1 || longest > 1500 {
+        if !(1..=1500).contains(&longest) {
             return Err(SizeFault::Longest);
         }
-        if parts < 1 || parts > 10000 {
+        if !(1..=10000).contains(&parts) {
             return Err(SizeFault::Parts);
         }
         Ok(Size {

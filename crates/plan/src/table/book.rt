@@ -1,5 +1,6 @@
 //! An empty plan, and the booking of a share.
-ghost use Rattle.std.specs.Prelude.{◌≡◌, ◌+◌, ◌<◌, ◌≤◌, Some, None, MatchResult};
+ghost use Rattle.std.specs.Prelude.{◌≡◌, ℕ, ◌+◌, ◌*◌, ◌<◌, ◌≤◌, Some, None, MatchResult, map, sum, slice_index};
+ghost use Rattle.std.specs.List.{range_with_len};
 ghost use Rattle.grid.specs.Flows.{with_flow};
 ghost use Rattle.plan.specs.Table.{weight_in, row_sum, column_sum};
 ghost use Rattle.plan.specs.Weights.{weight_of, refusal_of};
@@ -8,28 +9,13 @@ use crate::fault::ShareFault;
 use crate::size::Size;
 use crate::table::Plan;
 
-// The sum of input i's weights over n ports.
-fn add_row(weights: &[u32; 256], n: usize, i: usize) -> u64
-    requires { (n ≤ 16) × (i < 16) }
-    ensures { result ≡ row_sum n (weight_in weights.now) i }
+// The weights at n places added up, the first of them and then each `step` further.
+fn add_up(weights: &[u32; 256], n: usize, first: usize, step: usize) -> u64
+    requires few { n ≤ 16 }
+    requires inside { (k : ℕ) → k < n → first + k * step < 256 }
+    ensures { result ≡ sum (map (λ k. slice_index weights.now (first + k * step)) (range_with_len 0 n)) }
 {
-    let mut sum = 0;
-    for j in 0..n {
-        sum += u64::from(weights[16 * i + j]);
-    }
-    sum
-}
-
-// The sum of output j's weights over n ports.
-fn add_column(weights: &[u32; 256], n: usize, j: usize) -> u64
-    requires { (n ≤ 16) × (j < 16) }
-    ensures { result ≡ column_sum n (weight_in weights.now) j }
-{
-    let mut sum = 0;
-    for i in 0..n {
-        sum += u64::from(weights[16 * i + j]);
-    }
-    sum
+    (0..n).map(|k| u64::from(weights[first + k * step])).sum()
 }
 
 impl Plan {
@@ -48,19 +34,17 @@ impl Plan {
     pub fn share(&mut self, input: usize, output: usize, weight: u32) -> Result<(), ShareFault>
         ensures { MatchResult result (λ _. (refusal_of self.old input output weight ≡ None) × (self.new.size ≡ self.old.size) × (weight_of self.new ≡ with_flow (weight_of self.old) input output weight)) (λ f. (refusal_of self.old input output weight ≡ Some f) × (self.new ≡ self.old)) }
     {
-        let n = self.size.ports;
-        if input >= n || output >= n {
-            return Err(ShareFault::Port);
-        }
+        let place = self.place(input, output)?;
         if weight > self.size.parts {
             return Err(ShareFault::Weight);
         }
+        let n = self.size.ports;
         let mut weights = self.weights;
-        weights[16 * input + output] = weight;
-        if add_row(&weights, n, input) > u64::from(self.size.parts) {
+        weights[place] = weight;
+        if add_up(&weights, n, 16 * input, 1) > u64::from(self.size.parts) {
             return Err(ShareFault::Row);
         }
-        if add_column(&weights, n, output) > u64::from(self.size.parts) {
+        if add_up(&weights, n, output, 16) > u64::from(self.size.parts) {
             return Err(ShareFault::Column);
         }
         self.weights = weights;
