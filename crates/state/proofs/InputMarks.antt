@@ -4,6 +4,7 @@ use Rattle.std.specs.List.{slice_get}
 use Rattle.std.proofs.lemmas.Bool.{cases_lt}
 use Rattle.timing.specs.Fluid.{Accepted}
 use Rattle.timing.specs.Marks.{none_before, stands_first, tied}
+use Rattle.timing.specs.Order.{earlier_is_before}
 use Rattle.timing.specs.Stamps.{scaled, earlier, scaled_start, scaled_finish, stamp_at}
 use Rattle.timing.specs.declared.Stamp.{Stamp}
 use Rattle.timing.proofs.Stamped.{scaled_at, not_zero}
@@ -31,7 +32,7 @@ as_finish (Some m) = Some (finish_of_stamp m)
 none_same : (row : List (Option Stamp)) (m : Stamp) → none_before sooner (map as_finish row) (finish_of_stamp m) ≡ none_before earlier row m
 none_same [] m = refl
 none_same (None ∷ row) m = none_same row m
-none_same (Some x ∷ row) m = ap (λ v. not (earlier x m) && v) (none_same row m)
+none_same (Some x ∷ row) m = ap (λ v. not v && none_before sooner (map as_finish row) (finish_of_stamp m)) (sym (earlier_is_before x m)) ∙ ap (λ v. not (earlier x m) && v) (none_same row m)
 
 stands_same : (row : List (Option Stamp)) (o : Option Stamp) → stands_first sooner (map as_finish row) (as_finish o) ≡ stands_first earlier row o
 stands_same row None = refl

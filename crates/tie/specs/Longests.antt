@@ -6,10 +6,11 @@ use Rattle.std.proofs.lemmas.List.{get_or_past}
 use Rattle.std.proofs.lemmas.Bool.{both_ways, cases_Bool, cases_lt, le-ltb, ltb-false}
 use Rattle.tie.specs.declared.question.Question.{Question}
 use Rattle.tie.specs.Rounds.{below_suc, cases_weaker, lowest_law}
-use Rattle.tie.specs.Positions.{LongestTied, LowestTied, Untied, longest, mark, marks}
+use Rattle.tie.specs.Positions.{LongestTied, LowestTied, Untied, larger, longest, mark, marks}
 use Rattle.timing.proofs.Firsts.{tied_decides}
-use Rattle.timing.specs.Marks.{First, larger, tied}
-use Rattle.timing.specs.declared.marks.Bytes.{Bytes}
+use Rattle.std.specs.declared.cmp.Reverse.{Reverse}
+use Rattle.timing.specs.Marks.{First, tied}
+use Rattle.timing.specs.Order.{nat_less}
 
 none≢some : {X : Type 0} (x : X) → ◌≡◌ {A = Option X} None (Some x) → ⊥
 none≢some x e = let z : ◌≡◌ {A = ℕ} 0 1 = cc in omega arith
@@ -53,7 +54,7 @@ module _ (question : Question) where
   unfolding marks
   marks_length = length-map-range_with_len (λ i. mark (slice_index_or question.tied i false) (slice_index question.waiting i)) 0 16
 
-  marked : (j : ℕ) (x : Bytes) → slice_index_or (marks question) j None ≡ Some x → (j < 16) × (slice_index_or question.tied j false ≡ true) × (x.0 ≡ slice_index question.waiting j)
+  marked : (j : ℕ) (x : Reverse ℕ) → slice_index_or (marks question) j None ≡ Some x → (j < 16) × (slice_index_or question.tied j false ≡ true) × (x.0 ≡ slice_index question.waiting j)
   marked j x e =
       let w = get_or question.waiting j 0 in
       ⊎_elim
@@ -67,12 +68,12 @@ module _ (question : Question) where
   first_from_most : (k : ℕ) → Most 16 k → First larger (marks question) k
   first_from_most k m =
       let w = get_or question.waiting k 0 in
-      (record { 0 = w }, marks_at k m.0 ∙ ap (λ b. mark b w) m.1, λ j x e. let p = marked j x e in le-ltb w x.0 (omega (arith, m.2 j p.0 p.1)))
+      (record { 0 = w }, marks_at k m.0 ∙ ap (λ b. mark b w) m.1, λ j x e. let p = marked j x e in nat_less w x.0 ∙ le-ltb w x.0 (omega (arith, m.2 j p.0 p.1)))
 
   most_from_first : (k : ℕ) → First larger (marks question) k → Most 16 k
   most_from_first k f =
       let p = marked k f.0 f.1 in
-      (p.0, p.1, λ j h t. let w = get_or question.waiting j 0 in omega (arith, ltb-false f.0.0 w (f.2 j (record { 0 = w }) (marks_at j h ∙ ap (λ b. mark b w) t))))
+      (p.0, p.1, λ j h t. let w = get_or question.waiting j 0 in omega (arith, ltb-false f.0.0 w (sym (nat_less f.0.0 w) ∙ f.2 j (record { 0 = w }) (marks_at j h ∙ ap (λ b. mark b w) t))))
 
   chosen_at : (k : ℕ) → Decides (slice_index_or (tied larger (marks question)) k false) (First larger (marks question) k)
   chosen_at k = tied_decides larger (marks question) k

@@ -1,8 +1,9 @@
 -- Which of the tied positions stands first. In a row of ties, entry k says whether position k is tied; positions go up to 15.
 use Rattle.std.specs.Prelude.{◌≡◌, ℕ, zero, suc, ◌+◌, ◌%◌, ◌<◌, ◌≤◌, Bool, true, false, cond, List, map, Some, None, Option, slice_index, slice_index_or}
 use Rattle.std.specs.List.{range_with_len}
-use Rattle.timing.specs.Marks.{larger, tied}
-use Rattle.timing.specs.declared.marks.Bytes.{Bytes}
+use Rattle.std.specs.Ordering.{is_lt, nat_cmp}
+use Rattle.std.specs.declared.cmp.Reverse.{Reverse}
+use Rattle.timing.specs.Marks.{tied}
 use Rattle.tie.specs.declared.question.Question.{Question}
 
 -- the first tied of the n positions p, p + 1, .., where 0 follows 15
@@ -18,13 +19,17 @@ first_from p ties = first_round 16 p ties
 abbrev pub lowest : List Bool → Option ℕ
 lowest ties = first_from 0 ties
 
+-- the larger count of bytes stands before
+abbrev pub larger : Reverse ℕ → Reverse ℕ → Bool
+larger a b = is_lt (nat_cmp b.0 a.0)
+
 -- the mark of a tied position is its waiting bytes
-abbrev pub mark : Bool → ℕ → Option Bytes
+abbrev pub mark : Bool → ℕ → Option (Reverse ℕ)
 mark true bytes = Some (record { 0 = bytes })
 mark false bytes = None
 
 -- the marks of positions 0 to 15
-unfoldable pub marks : Question → List (Option Bytes)
+unfoldable pub marks : Question → List (Option (Reverse ℕ))
 marks question = map (λ k. mark (slice_index_or question.tied k false) (slice_index question.waiting k)) (range_with_len 0 16)
 
 -- the lowest of those that wait with the most bytes

@@ -66,11 +66,9 @@ impl Turn {
         ensures value { result ≡ pointer_of self.now code }
         ensures past { 32 ≤ code → result ≡ 0 }
     {
-        if code < 32 {
-            self.pointers[code] as usize
-        } else {
-            0
-        }
+        self.pointers
+            .get(code)
+            .map_or(0, |pointer| usize::from(*pointer))
     }
 }
 
@@ -92,6 +90,7 @@ impl TieRule for Turn {
         ensures elsewhere { (other : ℕ) → (other ≢ code) → pointer_of self.new other ≡ pointer_of self.old other }
         ensures past { 32 ≤ code → self.new ≡ self.old }
     {
+        // Tried by `get_mut`: its contract says nothing of what the array ends as, so the proof does not close.
         if code < 32 {
             self.pointers[code] = ((winner % 16 + 1) % 16) as u8;
         }

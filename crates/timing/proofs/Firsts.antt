@@ -3,7 +3,7 @@ use Rattle.std.proofs.Common.{◌≡◌, ℕ, zero, suc, Bool, true, false, not,
 use Rattle.std.proofs.lemmas.Bool.{and_from, and_parts, both_ways, not_from_false, not-true}
 use Rattle.timing.specs.Marks.{First, none_before, stands_first, tied}
 
-none≢some : {M : Type 0} (x : M) → ◌≡◌ {A = Option M} None (Some x) → ⊥
+pub none≢some : {M : Type 0} (x : M) → ◌≡◌ {A = Option M} None (Some x) → ⊥
 none≢some x e = let z : ◌≡◌ {A = ℕ} 0 1 = cc in omega arith
 
 get_or_mapped : {X : Type 0} (f : Option X → Bool) → f None ≡ false → (row : List (Option X)) (k : ℕ) → get_or (map f row) k false ≡ f (get_or row k None)
@@ -12,7 +12,7 @@ get_or_mapped f e (x ∷ row) zero = refl
 get_or_mapped f e (x ∷ row) (suc k) = get_or_mapped f e row k
 
 module _ {M : Type 0} (before : M → M → Bool) where
-  none_holds : (row : List (Option M)) (m : M) → none_before before row m ≡ true → (j : ℕ) (x : M) → get_or row j None ≡ Some x → before x m ≡ false
+  pub none_holds : (row : List (Option M)) (m : M) → none_before before row m ≡ true → (j : ℕ) (x : M) → get_or row j None ≡ Some x → before x m ≡ false
   none_holds [] m h j x e = absurd (none≢some x e)
   none_holds (None ∷ row) m h zero x e = absurd (none≢some x e)
   none_holds (None ∷ row) m h (suc j) x e = none_holds row m h j x e

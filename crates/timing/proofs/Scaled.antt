@@ -1,10 +1,14 @@
 -- A weight and a scaled value determine the stamp.
-use Rattle.std.proofs.Common.{◌≡◌, ℕ, ◌+◌, ◌*◌, ◌/◌, ◌%◌, ◌^◌, ◌<◌, ◌≤◌, Some, None, Option, sym, ap, ◌∙◌, subst, mod-lt, mul_comm, mul-le-mul_left, div-le_self, arith}
+use Rattle.std.proofs.Common.{◌≡◌, ℕ, ◌+◌, ◌*◌, ◌/◌, ◌%◌, ◌^◌, ◌<◌, ◌≤◌, max, Bool, true, false, cond, Some, Option, refl, sym, ap, ◌∙◌, subst, mod-lt, mul_comm, div-le_self, arith}
 use native.Mathlib.Nat.{div-add-mod}
 use lib.Arith.{digits_div, digits_mod}
+use Rattle.std.proofs.lemmas.Bool.{ltb-false, ltb-true}
 use Rattle.std.proofs.lemmas.Nat.{mul-le}
+use Rattle.std.proofs.Math.Nat.{le_of_mul-le-mul_right, lt_of_mul-lt-mul_right}
+use Rattle.std.specs.Ordering.{ord_max}
+use Rattle.timing.specs.Order.{earlier_is_before}
 use Rattle.timing.specs.declared.Stamp.{Stamp}
-use Rattle.timing.specs.Stamps.{Given, SameFlow, IsStampOf, last_scaled, scaled, scaled_finish, scaled_start}
+use Rattle.timing.specs.Stamps.{SameFlow, IsStampOf, earlier, stamp_cmp, last_scaled, scaled, scaled_finish}
 
 turned : (s : Stamp) → scaled s ≡ s.tick * s.weight + s.numerator
 turned s = ap (λ n. n + s.numerator) (mul_comm s.weight s.tick)
@@ -21,25 +25,29 @@ is_stamp_of s w v p q =
     let n = numerator_of s in
     record { same_weight = p; same_scaled = q; same_tick = cc; same_numerator = cc }
 
--- an arrival after the last finish is the start
-pub starts_anew : (f : Stamp) (w a : ℕ) → f.weight ≡ w → f.tick < a → w * a ≡ scaled_start w a (scaled f)
-starts_anew f w a p h =
-    let q = ap (λ v. v * f.tick + f.numerator) p in
-    let r : f.tick + 1 ≤ a = omega arith in
-    omega (arith, f.below, mul-le-mul_left w r)
+-- the later of a last finish and an arrival, of one weight
+module _ (w v : ℕ) (f a : Stamp) (same : f.weight ≡ w) (arrived : IsStampOf w v a) where
+  later_by : (t : Bool) → earlier a f ≡ t → IsStampOf w (max v (scaled f)) (cond t f a)
+  later_by true e =
+      let x = ap (λ n. scaled a * n) same in
+      let y = ap (λ n. scaled f * n) arrived.same_weight in
+      let l = ltb-true (scaled a * f.weight) (scaled f * a.weight) (sym (earlier_is_before a f) ∙ e) in
+      let h : scaled a * w < scaled f * w = omega arith in
+      let less = lt_of_mul-lt-mul_right w h in
+      is_stamp_of f w _ same (omega (arith, arrived.same_scaled))
+  later_by false e =
+      let x = ap (λ n. scaled a * n) same in
+      let y = ap (λ n. scaled f * n) arrived.same_weight in
+      let l = ltb-false (scaled a * f.weight) (scaled f * a.weight) (sym (earlier_is_before a f) ∙ e) in
+      let h : scaled f * w ≤ scaled a * w = omega arith in
+      let pos : 0 < w = omega (arith, f.below) in
+      let least = le_of_mul-le-mul_right {k = w} h pos in
+      is_stamp_of a w _ arrived.same_weight (omega (arith, arrived.same_scaled))
 
--- else the last finish is
-pub starts_at_last : (last : Option Stamp) (f s : Stamp) (w a : ℕ) → last ≡ Some f → f.weight ≡ w → a ≤ f.tick → s.weight ≡ w → scaled s ≡ scaled f →
-    ((0 < w) × SameFlow w last) × IsStampOf w (scaled_start w a (last_scaled last)) s
-starts_at_last last f s w a is p h q e =
-    let r = ap (λ v. v * f.tick + f.numerator) p in
-    let k : 0 < w = omega (arith, f.below) in
-    let v : scaled f ≡ scaled_start w a (scaled f) = omega (arith, mul-le-mul_left w h) in
-    subst (λ l. ((0 < w) × SameFlow w l) × IsStampOf w (scaled_start w a (last_scaled l)) s) (sym is) ((k, p), is_stamp_of s w _ q (e ∙ v))
-
-pub given_like : (o : Option Stamp) (P Q : Type 0) (w v u : ℕ) → (P → Q) → (Q → P) → v ≡ u → Given o P w v → Given o Q w u
-given_like None P Q w v u f g e h = λ q. h (g q)
-given_like (Some s) P Q w v u f g e h = (f h.0, is_stamp_of s w u h.1.same_weight (h.1.same_scaled ∙ e))
+  pub starts_later : (last : Option Stamp) (r : Stamp) → last ≡ Some f → r ≡ ord_max stamp_cmp f a → ((0 < w) × SameFlow w last) × IsStampOf w (max v (last_scaled last)) r
+  starts_later last r is e =
+      let P : Option Stamp → Type 0 = λ l. ((0 < w) × SameFlow w l) × IsStampOf w (max v (last_scaled l)) r in
+      subst P (sym is) ((omega (arith, f.below), same), subst (IsStampOf w (max v (scaled f))) (sym e) (later_by (earlier a f) refl))
 
 -- a stamp and a virtual length q + m / weight: the numerators are added and carried
 module _ (s : Stamp) (W b q m : ℕ) (whole : q ≡ b * W / s.weight) (rest : m ≡ b * W % s.weight) where

@@ -1,5 +1,4 @@
 -- What the contracts cite.
-pub mod Best
 pub mod Flow
 pub mod Fluid
 pub mod Marks

@@ -1,10 +1,11 @@
 -- Marks that stand before one another, and those of a row that stand first.
-use Rattle.std.specs.Prelude.{◌≡◌, ℕ, Bool, true, false, not, ◌&&◌, List, [], ◌∷◌, map, Some, None, Option, nat_lt, slice_index_or}
-use Rattle.timing.specs.declared.marks.Bytes.{Bytes}
+use Rattle.std.specs.Prelude.{◌≡◌, ℕ, Bool, true, false, not, ◌&&◌, List, [], ◌∷◌, map, Some, None, Option, slice_index_or}
+use Rattle.std.specs.declared.cmp.Ordering.{Ordering}
+use Rattle.std.specs.Ordering.{is_lt}
 
--- the larger count of bytes stands before
-abbrev pub larger : Bytes → Bytes → Bool
-larger a b = nat_lt b.0 a.0
+-- x stands before y: it is less
+abbrev pub less : {M : Type 0} → (M → M → Ordering) → M → M → Bool
+less cmp x y = is_lt (cmp x y)
 
 -- no mark of the row stands before m
 abbrev pub none_before : {M : Type 0} → (M → M → Bool) → List (Option M) → M → Bool

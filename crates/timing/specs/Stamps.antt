@@ -1,5 +1,7 @@
 -- Stamps as scaled numbers: a flow's weight times a virtual time, which is always whole.
 use Rattle.std.specs.Prelude.{◌≡◌, ℕ, suc, pred, ◌+◌, ◌*◌, ◌/◌, ◌%◌, max, Bool, Some, None, Option, nat_lt}
+use Rattle.std.specs.declared.cmp.Ordering.{Ordering}
+use Rattle.std.specs.Ordering.{is_lt, nat_cmp}
 use Rattle.std.proofs.Common.{mod-lt, zero-lt-suc}
 use Rattle.timing.specs.declared.Stamp.{Stamp}
 
@@ -45,10 +47,18 @@ abbrev pub Given : Option Stamp → Type 0 → ℕ → ℕ → Type 0
 Given None P w v = P → ⊥
 Given (Some s) P w v = P × IsStampOf w v s
 
+-- the fraction v / w against x / y
+abbrev pub fraction_cmp : (v w x y : ℕ) → Ordering
+fraction_cmp v w x y = nat_cmp (v * y) (x * w)
+
 -- the fraction v / w is less than x / y
 abbrev pub fraction_before : (v w x y : ℕ) → Bool
 fraction_before v w x y = nat_lt (v * y) (x * w)
 
+-- a against b, as exact fractions
+abbrev pub stamp_cmp : Stamp → Stamp → Ordering
+stamp_cmp a b = fraction_cmp (scaled a) a.weight (scaled b) b.weight
+
 -- a stands before b, as exact fractions
 abbrev pub earlier : Stamp → Stamp → Bool
-earlier a b = fraction_before (scaled a) a.weight (scaled b) b.weight
+earlier a b = is_lt (stamp_cmp a b)

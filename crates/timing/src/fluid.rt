@@ -11,15 +11,9 @@ pub fn fluid_amount(parts: u32, weight: u32, accepted: u64, last: Option<Stamp>,
     ensures value { result ≡ min (2 ^ 64 - 1) (parts * accepted - (last_scaled last - weight * tick)) }
     ensures exact { (ps : List Accepted) → accepted_bytes ps ≡ accepted → last_finish parts weight 0 ps ≡ last_scaled last → Arrived tick ps → weight * tick < 2 ^ 64 → result ≡ fluid parts weight tick 0 ps }
 {
-    let finish = match last {
-        None => 0,
-        Some(stamp) => stamp.scaled(),
-    };
-    let w = weight as u128;
-    let t = tick as u128;
-    let ahead = finish.saturating_sub(w * t);
-    let p = parts as u128;
-    let a = accepted as u128;
-    let amount = (p * a).saturating_sub(ahead);
-    amount.min(u64::MAX as u128) as u64
+    let finish = last.map_or(0, |stamp| stamp.scaled());
+    let reached = u128::from(weight) * u128::from(tick);
+    let ahead = finish.saturating_sub(reached);
+    let amount = (u128::from(parts) * u128::from(accepted)).saturating_sub(ahead);
+    u64::try_from(amount).unwrap_or(u64::MAX)
 }

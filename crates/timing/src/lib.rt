@@ -10,8 +10,8 @@ mod stamps;
 
 pub use flow::Stamper;
 pub use fluid::fluid_amount;
-pub use marks::{Bytes, Mark, choose};
-pub use stamps::{precedes, virtual_finish, virtual_length, virtual_start};
+pub use marks::choose;
+pub use stamps::{virtual_finish, virtual_length, virtual_start};
 
 /// A virtual time of a flow: a whole tick and a numerator over the flow's weight, below it.
 #[derive(Clone, Copy)]

@@ -1,9 +1,14 @@
 //! Virtual starts and finishes, worked out and compared exactly.
 ghost use Rattle.std.specs.Prelude.{◌≡◌, ◌*◌, ◌/◌, ◌%◌, ◌^◌, ◌<◌};
 ghost use Rattle.std.specs.Option.{SomeIff};
-ghost use Rattle.timing.specs.Stamps.{Given, SameFlow, earlier, last_scaled, scaled, scaled_finish, scaled_start};
+ghost use Rattle.std.specs.Cmp.{eq_by_cmp_equiv, partial_equiv_from_equiv, partial_order_from_total};
+ghost use Rattle.std.specs.Ordering.{as_partial_cmp, eq_by_cmp};
+ghost use Rattle.std.proofs.Common.{rules};
+ghost use Rattle.timing.specs.Order.{stamp_cmp_total};
+ghost use Rattle.timing.specs.Stamps.{Given, SameFlow, last_scaled, scaled, scaled_finish, scaled_start, stamp_cmp};
 
 use super::Stamp;
+use std::cmp::Ordering;
 
 impl Stamp {
     /// The stamp of a whole tick; none for weight 0.
@@ -46,9 +51,9 @@ impl Stamp {
         ensures value { result ≡ scaled self.now }
         ensures bound { result < 2 ^ 96 }
     {
-        let weight = self.weight as u128;
-        let tick = self.tick as u128;
-        weight * tick + self.numerator as u128
+        let weight = u128::from(self.weight);
+        let tick = u128::from(self.tick);
+        weight * tick + u128::from(self.numerator)
     }
 }
 
@@ -59,11 +64,9 @@ pub fn virtual_length(bytes: u32, parts: u32, weight: u32) -> Option<(u64, u32)>
     if weight == 0 {
         return None;
     }
-    let b = bytes as u64;
-    let p = parts as u64;
-    let w = weight as u64;
-    let product = b * p;
-    Some((product / w, (product % w) as u32))
+    let product = u64::from(bytes) * u64::from(parts);
+    let weight = u64::from(weight);
+    Some((product / weight, (product % weight) as u32))
 }
 
 /// The virtual start: the later of the arrival and the virtual finish of the packet accepted last in the flow,
@@ -71,17 +74,11 @@ pub fn virtual_length(bytes: u32, parts: u32, weight: u32) -> Option<(u64, u32)>
 pub fn virtual_start(arrival: u64, last: Option<Stamp>, weight: u32) -> Option<Stamp>
     ensures { Given result ((0 < weight) × SameFlow weight last) weight (scaled_start weight arrival (last_scaled last)) }
 {
+    let arrived = Stamp::at(arrival, weight)?;
     match last {
-        None => Stamp::at(arrival, weight),
-        Some(finish) => {
-            if finish.weight != weight {
-                None
-            } else if finish.tick < arrival {
-                Stamp::at(arrival, weight)
-            } else {
-                Some(finish)
-            }
-        }
+        None => Some(arrived),
+        Some(finish) if finish.weight != weight => None,
+        Some(finish) => Some(finish.max(arrived)),
     }
 }
 
@@ -90,8 +87,8 @@ pub fn virtual_finish(start: Stamp, bytes: u32, parts: u32) -> Option<Stamp>
     ensures { Given result (scaled_finish parts (scaled start) bytes < start.weight * 2 ^ 64) start.weight (scaled_finish parts (scaled start) bytes) }
 {
     let (ticks, part) = virtual_length(bytes, parts, start.weight)?;
-    let weight = start.weight as u64;
-    let sum = start.numerator as u64 + part as u64;
+    let weight = u64::from(start.weight);
+    let sum = u64::from(start.numerator) + u64::from(part);
     let tick = start.tick.checked_add(ticks + sum / weight)?;
     Some(Stamp {
         tick,
@@ -100,15 +97,43 @@ pub fn virtual_finish(start: Stamp, bytes: u32, parts: u32) -> Option<Stamp>
     })
 }
 
-/// Whether a stands before b, as exact fractions.
-pub fn precedes(a: &Stamp, b: &Stamp) -> bool
-    ensures { result ≡ earlier a.now b.now }
-{
-    let a_scaled = a.scaled();
-    let b_scaled = b.scaled();
-    let a_weight = a.weight as u128;
-    let b_weight = b.weight as u128;
-    let left = a_scaled * b_weight;
-    let right = b_scaled * a_weight;
-    left < right
+// Stamps stand in the order of their exact fractions, so that two of different weights may be equal.
+impl Ord for Stamp {
+    ghost cmp = { stamp_cmp };
+
+    ghost total = { stamp_cmp_total };
+
+    ghost matches_partial_cmp = { Prim.search rules };
+
+    ghost matches_eq = { Prim.search rules };
+
+    fn cmp(&self, other: &Stamp) -> Ordering {
+        let left = self.scaled() * u128::from(other.weight);
+        let right = other.scaled() * u128::from(self.weight);
+        left.cmp(&right)
+    }
+}
+
+impl PartialOrd for Stamp {
+    ghost partial_cmp = { as_partial_cmp stamp_cmp };
+
+    ghost laws = { partial_order_from_total stamp_cmp_total };
+
+    fn partial_cmp(&self, other: &Stamp) -> Option<Ordering> {
+        Some(self.cmp(other))
+    }
+}
+
+impl PartialEq for Stamp {
+    ghost eq = { eq_by_cmp stamp_cmp };
+
+    ghost laws = { partial_equiv_from_equiv (eq_by_cmp_equiv stamp_cmp_total) };
+
+    fn eq(&self, other: &Stamp) -> bool {
+        self.cmp(other).is_eq()
+    }
+}
+
+impl Eq for Stamp {
+    ghost laws = { eq_by_cmp_equiv stamp_cmp_total };
 }

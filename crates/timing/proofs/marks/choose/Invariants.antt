@@ -1,8 +1,8 @@
-use Rattle.std.proofs.Common.{◌≡◌, ℕ, ◌<◌, false, length, get_or, None}
-use Rattle.timing.specs.Best.{level}
+use Rattle.std.proofs.Common.{◌≡◌, ℕ, ◌<◌, false, ◌&&◌, is_some, length, get_or, None}
+use Rattle.std.specs.Option.{option_eq}
 use Rattle.timing.proofs.marks.choose.Given as goal
 
-abbrev pub invariant-loop-i : goal.invariant-loop-i
-invariant-loop-i g l =
+abbrev pub invariant-loop-k : goal.invariant-loop-k
+invariant-loop-k g l =
     (length l.chosen ≡ length l.marks) ×
-    ((k : ℕ) → k < l.i → get_or l.chosen k false ≡ level g.M.Mark.before l.first (get_or l.marks k None))
+    ((j : ℕ) → j < l.k → get_or l.chosen j false ≡ (is_some (get_or l.marks j None) && option_eq g.M.PartialEq.eq (get_or l.marks j None) l.first))
