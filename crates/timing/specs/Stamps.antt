@@ -1,8 +1,9 @@
 -- Stamps as scaled numbers: a flow's weight times a virtual time, which is always whole.
 use Rattle.std.specs.Prelude.{◌≡◌, ℕ, suc, pred, ◌+◌, ◌*◌, ◌/◌, ◌%◌, max, Bool, Some, None, Option, nat_lt}
 use Rattle.std.specs.declared.cmp.Ordering.{Ordering}
-use Rattle.std.specs.Ordering.{is_lt, nat_cmp}
+use Rattle.std.specs.Ordering.{nat_cmp}
 use Rattle.std.proofs.Common.{mod-lt, zero-lt-suc}
+use Rattle.timing.specs.Marks.{less}
 use Rattle.timing.specs.declared.Stamp.{Stamp}
 
 -- the weight times the stamp
@@ -61,4 +62,4 @@ stamp_cmp a b = fraction_cmp (scaled a) a.weight (scaled b) b.weight
 
 -- a stands before b, as exact fractions
 abbrev pub earlier : Stamp → Stamp → Bool
-earlier a b = is_lt (stamp_cmp a b)
+earlier = less stamp_cmp

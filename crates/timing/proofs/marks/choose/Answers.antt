@@ -1,4 +1,4 @@
-use Rattle.std.proofs.Common.{◌≡◌, ℕ, ◌<◌, ◌≤◌, ◌&&◌, is_some, false, List, Bool, length, get_or, None, Decides, refl, sym, ap, ◌∙◌, subst, arith}
+use Rattle.std.proofs.Common.{◌≡◌, ℕ, ◌<◌, ◌≤◌, ◌&&◌, is_some, false, List, Bool, length, get_or, None, Decides, refl, sym, ap, subst, arith}
 use Rattle.std.specs.Option.{option_eq}
 use Rattle.timing.proofs.Chosen.{chosen_first, mapped_from_get_or}
 use Rattle.timing.proofs.Firsts.{tied_decides}
@@ -16,7 +16,8 @@ returns g c =
     let o = get_or row k None in
     let here = c.loop-k.invariant.1 k (omega arith) in
     let same = ap (λ b. is_some o && option_eq eq o b) c.least-first.ensures in
-    here ∙ same ∙ chosen_first cmp g.met.M.Ord.total eq g.met.M.Ord.matches_eq row k o refl in
+    let first = chosen_first cmp g.met.M.Ord.total eq g.met.M.Ord.matches_eq row k o refl in
+    cc in
     let value : c.loop-k.chosen ≡ tied (less cmp) row = mapped_from_get_or (stands_first (less cmp) row) row c.loop-k.chosen None false c.loop-k.invariant.0 each in
     record {
       value = value;
