@@ -5,6 +5,7 @@ use Rattle.std.proofs.lemmas.List.FromFn.{get_or-map-range_with_len, length-map-
 use Rattle.std.proofs.ByRecursion.{All-get_or, All-weaker}
 use Rattle.std.proofs.lemmas.List.{length_push, drop-append-le, drop-drop}
 use Rattle.std.proofs.lemmas.Bool.{cases_eq, cases_Bool, ltb-true, lt-ltb}
+use Rattle.std.proofs.lemmas.Simd.{map-map}
 use Rattle.grid.specs.Flows.{sum_below}
 use Rattle.timing.specs.Fluid.{Accepted, last_finish}
 use Rattle.timing.proofs.Served.{last_finish_push}
@@ -156,10 +157,6 @@ module _ (side : Side) (W L n o : ℕ) (weight : ℕ → ℕ) (ps : ℕ → List
       (cases_eq m k)
 
 -- the line before anything has come
-map_twice : {X Y Z : Type 0} (f : Y → X) (g : Z → Y) (xs : List Z) → map f (map g xs) ≡ map (λ x. f (g x)) xs
-map_twice f g [] = refl
-map_twice f g (x ∷ xs) = ap (λ more. f (g x) ∷ more) (map_twice f g xs)
-
 pub line_opens : (side : Side) (W L n : ℕ) (weight : ℕ → ℕ) (ps : ℕ → List Accepted) (starts : ℕ → List ℕ) (l t : ℕ) → sum_below n weight ≤ W → ((m : ℕ) → ps m ≡ []) → ((m : ℕ) → starts m ≡ []) → l ≡ 0 → t ≡ 0 → Sound side W L (sum_below n (λ k. cond (ltb 0 (weight k)) 1 0)) (view W n weight ps starts l t)
 line_opens side W L n weight ps starts l t h no-ps no-starts free zero-clock =
     let weights = map weight (range_with_len 0 n) in
@@ -170,8 +167,8 @@ line_opens side W L n weight ps starts l t h no-ps no-starts free zero-clock =
       flows_are =
           map_same (λ m. seen W (weight m) (ps m) (length (starts m))) (λ m. served_unused (constant (weight m))) n
           (λ m _. ap (λ us. seen W (weight m) (ps m) (length us)) (no-starts m) ∙ ap (λ as'. seen W (weight m) as' 0) (no-ps m))
-          ∙ sym (map_twice (λ w. served_unused (constant w)) weight (range_with_len 0 n))
-          ∙ sym (map_twice served_unused constant weights);
+          ∙ sym (map-map (λ w. served_unused (constant w)) weight (range_with_len 0 n))
+          ∙ sym (map-map served_unused constant weights);
       left_is = free;
       clock_is = zero-clock;
     })

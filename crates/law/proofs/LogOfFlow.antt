@@ -1,5 +1,5 @@
 -- What the log tells of a flow is what its journeys are.
-use Rattle.std.proofs.Common.{◌≡◌, ℕ, zero, suc, ◌+◌, ◌-◌, ◌<◌, ◌≤◌, Bool, true, false, cond, List, [], ◌∷◌, ◌++◌, map, length, get_or, sym, refl, ap, ◌∙◌, subst, arith}
+use Rattle.std.proofs.Common.{◌≡◌, ℕ, ◌+◌, ◌-◌, ◌<◌, ◌≤◌, Bool, true, false, cond, List, [], ◌∷◌, ◌++◌, map, length, get_or, sym, refl, ap, ◌∙◌, subst, arith}
 use Rattle.std.proofs.ByRecursion.{All-push}
 use Rattle.std.proofs.lemmas.List.{append-nil, get_or_append_left, length_push, map-append}
 use Rattle.std.specs.List.{range_with_len, AllByRecursion}
@@ -10,7 +10,7 @@ use Rattle.law.specs.Step.{Plan, with_start}
 use Rattle.departure.specs.declared.Departure.{Departure}
 use Rattle.law.specs.Runs.{departure_with, departure, finish_at, flow_leaves, no_packet, no_stamp}
 use Rattle.law.proofs.EndedPackets.{ended_le_starts, ended_le_packets, ended_more_packets, ended_more_starts, ended_later}
-use Rattle.law.proofs.Lists.{counting_parts}
+use Rattle.law.proofs.Lists.{counting_parts, map_same}
 use Rattle.law.proofs.StampsOfFlow.{stamps_length, stamps_push}
 
 -- the accepted packets and the departures of flow (i, j) with journeys f at tick t
@@ -20,12 +20,6 @@ pub record Told (plan : Plan) (t : ℕ) (acc : List Accepted) (deps : List Depar
   pub some_bytes : AllByRecursion (λ p. 0 < p.bytes) f.accepted
   pub accepted_is : acc ≡ f.accepted
   pub departures_is : deps ≡ map (departure plan i j f) (range_with_len 0 (departed t f))
-
-map_same : {X : Type 0} (g h : ℕ → X) (a n : ℕ) → ((k : ℕ) → k < a + n → g k ≡ h k) → map g (range_with_len a n) ≡ map h (range_with_len a n)
-map_same g h a zero same = refl
-map_same {X} g h a (suc n) same =
-    ap (λ (x : X). x ∷ map g (range_with_len (a + 1) n)) (same a (omega arith))
-    ∙ ap (λ (xs : List X). h a ∷ xs) (map_same g h (a + 1) n (λ k l. same k (omega arith)))
 
 module _ (plan : Plan) (i j : ℕ) where
   -- a packet more
@@ -60,7 +54,7 @@ module _ (plan : Plan) (i j : ℕ) where
           accepted_is = ap (λ (xs : List Accepted). xs ++ p ∷ []) h.accepted_is;
           departures_is =
               append-nil deps ∙ h.departures_is
-              ∙ map_same (departure plan i j f) (departure plan i j grown) 0 (departed t f)
+              ∙ map_same (departure plan i j f) (departure plan i j grown) (departed t f)
               (λ k l. grown_departure k (omega (arith, ended_le_packets t f.accepted f.sendings)))
               ∙ ap (λ (n : ℕ). map (departure plan i j grown) (range_with_len 0 n)) (sym same);
         }
@@ -116,7 +110,7 @@ module _ (plan : Plan) (i j t : ℕ) (f : Journeys) (across out : Bool) where
       let same : departed t ticked ≡ d = ended_noted out t f (with_start across t f.crossings) h.some_bytes in
       let grows : d ≤ e = omega (arith, ended_later t f.accepted (with_start out t f.sendings)) in
       let started = ended_le_starts t f.accepted f.sendings in
-      let old = map_same (departure plan i j f) (departure plan i j ticked) 0 d
+      let old = map_same (departure plan i j f) (departure plan i j ticked) d
       (λ k l.
       ap (λ (v : ℕ). departure_with plan i j k (get_or f.accepted k no_packet) v (get_or f.sendings k 0) (finish_at plan i j f k))
       (sym (get_or_noted across t f.crossings k (omega (arith, h.out_after_across))))

@@ -3,6 +3,7 @@ use Rattle.std.proofs.Common.{◌≡◌, ℕ, ◌+◌, ◌-◌, ◌<◌, ◌≤�
 use mathlib.Core.Path.{fun_ext}
 use Rattle.std.specs.List.{range_with_len}
 use Rattle.std.proofs.lemmas.Bool.{cases_lt, lt-ltb, le-ltb, ltb-false, cond-true, cond-false}
+use Rattle.std.proofs.lemmas.Simd.{map-map}
 use Rattle.timing.specs.Marks.{tied}
 use Rattle.timing.specs.declared.Stamp.{Stamp}
 use Rattle.law.specs.Plans.{plan_of}
@@ -20,10 +21,6 @@ use Rattle.state.proofs.OutputMarks.{output_mark_same, output_mark_none}
 use Rattle.state.proofs.ShownFlows.{not_column, input_busy, output_busy}
 use Rattle.state.proofs.WaitingBytes.{wait_at_input, wait_at_output, no_wait_at_output, empty_at_input}
 
-map_twice : {X Y : Type 0} (f : X → Y) (g : ℕ → X) (xs : List ℕ) → map f (map g xs) ≡ map (λ k. f (g k)) xs
-map_twice f g [] = refl
-map_twice f g (x ∷ xs) = ap (λ ys. f (g x) ∷ ys) (map_twice f g xs)
-
 -- a function that is d from n on
 from_16 : {X : Type 0} (d : X) (n : ℕ) (f g : ℕ → X) → ((k : ℕ) → k < n → f k ≡ g k) → ((k : ℕ) → n ≤ k → f k ≡ d) → map f (range_with_len 0 16) ≡ of_16 d n g
 from_16 d n f g low high =
@@ -36,7 +33,7 @@ module _ {M : ℕ} {st : State} {log : List (Call × Answer)} {s : Switch} (now 
   unfolding marks_across
   marks_in i =
       let g : ℕ → Option Stamp = λ j. mark_across st.clock (next_across st i j) in
-      map_twice as_finish g (range_with_len 0 16)
+      map-map as_finish g (range_with_len 0 16)
       ∙ from_16 None st.plan.size.ports (λ j. as_finish (g j)) (input_mark (plan_of st.plan) s i)
       (λ j _. input_mark_same now i j)
       (λ j out. input_mark_same now i j ∙ no_mark _ _ _ (s.flow i j).accepted (length (s.flow i j).crossings) (now.shows.outside i j (not_column st.plan i j out)))
@@ -61,7 +58,7 @@ module _ {M : ℕ} {st : State} {log : List (Call × Answer)} {s : Switch} (now 
     unfolding marks_out
     marks_at j hj free =
         let g : ℕ → Option Stamp = λ i. mark_out mid.plan.size.longest mid.clock (next_out mid i j) in
-        map_twice as_finish g (range_with_len 0 16)
+        map-map as_finish g (range_with_len 0 16)
         ∙ from_16 None st.plan.size.ports (λ i. as_finish (g i)) (output_mark (plan_of st.plan) s j) (λ i hi. output_mark_same now ins i j hi hj free) (λ i out. output_mark_none now ins i j out)
 
     waits_at : (j : ℕ) → j < st.plan.size.ports → s.sending_until j ≤ s.clock → waits_out mid j ≡ of_16 0 st.plan.size.ports (λ i. bytes_at_output s.clock (s.flow i j))
