@@ -2,8 +2,6 @@
 use Rattle.std.specs.Prelude.{◌≡◌, ℕ, ◌+◌, cond, List, [], ◌∷◌, Ok, Err, Result, ◌==◌}
 use Rattle.timing.specs.Fluid.{accepted_bytes}
 use Rattle.plan.specs.Weights.{has_flow}
-use Rattle.plan.specs.declared.fault.PortFault.{PortFault}
-use Rattle.plan.specs.declared.fault.PortFault.TheVariants as port
 use Rattle.store.specs.declared.packet.Packet.{Packet}
 use Rattle.law.specs.Journeys.{departed_bytes}
 use Rattle.law.specs.Plans.{plan_of}
@@ -19,10 +17,6 @@ use Rattle.state.specs.Shows.{Shows}
 abbrev pub report_number : ReportFault → ℕ
 report_number fault.Port = 4
 report_number fault.Unbalanced = 13
-
--- the refusal of a report for the refusal of its ports
-abbrev pub of_port : PortFault → ReportFault
-of_port port.Port = fault.Port
 
 -- the lengths of packets added up
 unfoldable pub lengths : List Packet → ℕ

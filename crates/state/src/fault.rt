@@ -1,6 +1,7 @@
 //! Why a report is refused.
 ghost use Rattle.std.specs.Prelude.{◌≡◌};
-ghost use Rattle.state.specs.Reports.{report_number, of_port};
+ghost use Rattle.state.specs.Reports.{report_number};
+ghost use Rattle.state.specs.declared.fault.ReportFault.TheVariants as report;
 
 use plan::PortFault;
 
@@ -23,7 +24,7 @@ impl ReportFault {
 }
 
 impl From<PortFault> for ReportFault {
-    ghost from_gives = { λ fault given. given ≡ of_port fault };
+    ghost from_gives = { λ _ f. f ≡ report.Port };
 
     fn from(fault: PortFault) -> ReportFault {
         match fault {
