@@ -1,11 +1,12 @@
 //! An arrival: a packet is stamped and stored, or refused.
 ghost use Rattle.std.specs.Prelude.{◌≡◌, OnErr};
 ghost use Rattle.state.specs.Arrives.{arrive_answer, arrive_state};
-ghost use Rattle.switch.specs.Calls.{Arrives, state_of};
+ghost use Rattle.switch.specs.Calls.{Arrives, Keeps, state_of};
 
-use crate::flow::ledger_at;
+use crate::flow::{ledger_at, set_ledger};
 use crate::running::Running;
 use crate::stamping::incoming_of;
+use grid::Flow;
 use plan::ArriveFault;
 use state::Ledger;
 use store::Store;
@@ -24,36 +25,29 @@ impl<S: Store, R> Running<S, R> {
         ensures answer { result ≡ arrive_answer (S.Store.full self.old.store.store) (state_of S.Store.lists self.old) input output bytes }
         ensures state { state_of S.Store.lists self.new ≡ arrive_state result (state_of S.Store.lists self.old) input output bytes }
         ensures refused { OnErr result (self.new ≡ self.old) }
-        ensures stated_size { S.Store.size self.new.store.store ≡ S.Store.size self.old.store.store }
-        ensures rule { self.new.rule ≡ self.old.rule }
+        ensures kept { Keeps S.Store.size self.old self.new }
     {
-        let Ok(weight) = self.plan.weight(input, output) else {
-            return Err(ArriveFault::Port);
-        };
+        let weight = self.plan.weight(input, output)?;
         if bytes < 1 || bytes > self.plan.size.longest {
             return Err(ArriveFault::Length);
         }
         if weight == 0 {
             return Err(ArriveFault::Closed);
         }
-        let ledger = ledger_at(&self.ledgers, input, output);
-        let Some(incoming) = incoming_of(
-            ledger.last,
-            weight,
-            self.clock,
-            bytes,
-            self.plan.size.parts,
-        ) else {
-            return Err(ArriveFault::Full);
-        };
+        let flow = Flow { input, output };
+        let ledger = *ledger_at(&self.ledgers, flow);
+        let parts = self.plan.size.parts;
+        let stamped = incoming_of(ledger.last, weight, self.clock, bytes, parts);
+        let incoming = stamped.ok_or(ArriveFault::Full)?;
         if !self.store.put(input, output, incoming) {
             return Err(ArriveFault::Full);
         }
-        self.ledgers[16 * input + output] = Ledger {
+        let taken = Ledger {
             last: Some(incoming.finish),
-            accepted: ledger.accepted.wrapping_add(bytes as u64),
+            accepted: ledger.accepted.wrapping_add(u64::from(bytes)),
             ..ledger
         };
+        set_ledger(&mut self.ledgers, flow, taken);
         Ok(())
     }
 }

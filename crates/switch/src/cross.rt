@@ -1,12 +1,17 @@
 //! The first half of a step: what each input starts across.
-ghost use Rattle.std.specs.Prelude.{◌≡◌, ◌<◌, not, map};
-ghost use Rattle.switch.specs.Calls.{state_of};
-ghost use Rattle.state.specs.Crosses.{mark_across, marks_across, waits_across, question_across, next_across, crossed_with, choice_across, Crosses, Crossings};
+ghost use Rattle.std.specs.Prelude.{◌≡◌, ◌-◌, ◌<◌, not, map};
+ghost use Rattle.switch.specs.Calls.{Keeps, state_of};
+ghost use Rattle.state.specs.Lines.{busy_at};
+ghost use Rattle.law.specs.Rules.{asked};
+ghost use Rattle.tie.specs.declared.question.Question.{Question};
+ghost use Rattle.state.specs.Crosses.{mark_across, marks_across, waits_across, question_across, next_across, crossed_with, Crosses, Crossings};
 
-use crate::flow::ledger_at;
+use crate::flow::{ledger_at, set_ledger};
 use crate::lines::is_busy;
+use crate::port::{Port, by_port};
 use crate::ready::mark_across;
 use crate::running::Running;
+use grid::Flow;
 use state::{Busy, Ledger};
 use store::{Packet, Store};
 use tie::{Question, TieRule};
@@ -14,51 +19,40 @@ use timing::{Stamp, choose};
 
 impl<S: Store, R> Running<S, R> {
     // The oldest packet of a flow that has not started across.
-    pub(crate) fn next_across(&self, input: usize, output: usize) -> Option<Packet>
-        requires { (input < 16) × (output < 16) }
-        ensures { result ≡ next_across (state_of S.Store.lists self.now) input output }
+    pub(crate) fn next_across(&self, flow: Flow) -> Option<Packet>
+        ensures { result ≡ next_across (state_of S.Store.lists self.now) flow.input flow.output }
     {
-        let ledger = ledger_at(&self.ledgers, input, output);
-        self.store.look(input, output, ledger.under_way)
+        let ledger = ledger_at(&self.ledgers, flow);
+        self.store.look(flow.input, flow.output, ledger.under_way)
     }
 
     // The mark of the packet that is next from an input to an output.
-    fn mark_at_input(&self, input: usize, output: usize) -> Option<Stamp>
-        requires { (input < 16) × (output < 16) }
-        ensures { result ≡ mark_across self.now.clock (next_across (state_of S.Store.lists self.now) input output) }
+    fn mark_at_input(&self, flow: Flow) -> Option<Stamp>
+        ensures { result ≡ mark_across self.now.clock (next_across (state_of S.Store.lists self.now) flow.input flow.output) }
     {
-        mark_across(self.next_across(input, output), self.clock)
+        mark_across(self.next_across(flow), self.clock)
     }
 
     // The marks at an input, by output.
-    fn marks_across(&self, input: usize) -> [Option<Stamp>; 16]
-        requires { input < 16 }
-        ensures { result ≡ marks_across (state_of S.Store.lists self.now) input }
+    fn marks_across(&self, input: Port) -> [Option<Stamp>; 16]
+        ensures { result ≡ marks_across (state_of S.Store.lists self.now) input.index }
     {
-        let mut marks = [None; 16];
-        for j in 0..16 {
-            marks[j] = self.mark_at_input(input, j);
-        }
-        marks
+        by_port(|output| self.mark_at_input(input.to(output)))
     }
 
     // The bytes that wait at an input, by output.
-    fn waits_across(&self, input: usize) -> [u64; 16]
-        requires { input < 16 }
-        ensures { result ≡ waits_across (state_of S.Store.lists self.now) input }
+    fn waits_across(&self, input: Port) -> [u64; 16]
+        ensures { result ≡ waits_across (state_of S.Store.lists self.now) input.index }
     {
-        let mut waits = [0; 16];
-        for j in 0..16 {
-            let ledger = ledger_at(&self.ledgers, input, j);
-            waits[j] = ledger.accepted.saturating_sub(ledger.started);
-        }
-        waits
+        by_port(|output| {
+            let ledger = ledger_at(&self.ledgers, input.to(output));
+            ledger.accepted.saturating_sub(ledger.started)
+        })
     }
 
     // What an input asks the rule.
-    fn question_across(&self, input: usize) -> Question
-        requires { input < 16 }
-        ensures { result ≡ question_across (state_of S.Store.lists self.now) input }
+    fn question_across(&self, input: Port) -> Question
+        ensures { result ≡ question_across (state_of S.Store.lists self.now) input.index }
     {
         let marks = self.marks_across(input);
         Question {
@@ -68,54 +62,61 @@ impl<S: Store, R> Running<S, R> {
     }
 
     // Starts the oldest packet of a flow that has not started across, if there is one.
-    fn start_across(&mut self, input: usize, output: usize)
-        requires { (input < 16) × (output < 16) }
-        ensures state { state_of S.Store.lists self.new ≡ crossed_with (next_across (state_of S.Store.lists self.old) input output) (state_of S.Store.lists self.old) input output }
-        ensures size { S.Store.size self.new.store.store ≡ S.Store.size self.old.store.store }
-        ensures rule { self.new.rule ≡ self.old.rule }
+    fn start_across(&mut self, flow: Flow)
+        ensures state { state_of S.Store.lists self.new ≡ crossed_with (next_across (state_of S.Store.lists self.old) flow.input flow.output) (state_of S.Store.lists self.old) flow.input flow.output }
+        ensures kept { Keeps S.Store.size self.old self.new }
     {
-        let ledger = ledger_at(&self.ledgers, input, output);
-        let Some(packet) = self.next_across(input, output) else {
+        let Some(packet) = self.next_across(flow) else {
             return;
         };
-        let _ = self.store.note(input, output, ledger.under_way, self.clock);
-        let started = ledger.started.wrapping_add(packet.bytes as u64);
-        self.ledgers[16 * input + output] = Ledger {
+        let ledger = *ledger_at(&self.ledgers, flow);
+        let _ = self
+            .store
+            .note(flow.input, flow.output, ledger.under_way, self.clock);
+        let bytes = u64::from(packet.bytes);
+        let started = ledger.started.wrapping_add(bytes);
+        let starting = Ledger {
             started,
             peak: ledger.peak.max(started.saturating_sub(ledger.departed)),
             under_way: ledger.under_way.wrapping_add(1),
             ..ledger
         };
-        self.crossing[input] = Some(Busy {
-            load: output,
-            until: self.clock.wrapping_add(packet.bytes as u64),
+        set_ledger(&mut self.ledgers, flow, starting);
+        self.crossing[flow.input] = Some(Busy {
+            load: flow.output,
+            until: self.clock.wrapping_add(bytes),
         });
     }
 }
 
 impl<S: Store, R: TieRule> Running<S, R> {
-    // The output to which an input starts a packet now: none while its line is busy.
-    fn choose_across(&self, input: usize) -> Option<usize>
-        requires { input < 16 }
-        ensures { result ≡ choice_across R.TieRule.answer R.TieRule.told (state_of S.Store.lists self.now) self.now.rule input }
+    // What the rule picks at a port code: none while the line is busy. Only of a free line is the question made.
+    pub(crate) fn choose<T: Copy, F: FnOnce() -> Question>(
+        &self,
+        line: Option<Busy<T>>,
+        code: usize,
+        question: F,
+    ) -> Option<usize>
+        requires { F.IsAlwaysCallable question }
+        ensures { (asks : Question) → ((given : Question) → F.post question given → given ≡ asks) → result ≡ asked (R.TieRule.answer self.now.rule) code (busy_at self.now.clock line) asks }
     {
-        if is_busy(self.crossing[input], self.clock) {
+        if is_busy(line, self.clock) {
             return None;
         }
-        let question = self.question_across(input);
-        self.rule.ask(input, &question)
+        self.rule.ask(code, &question())
     }
 
     // An input's turn in a step: it starts what is chosen, and tells the rule.
-    fn cross(&mut self, input: usize)
-        requires { input < 16 }
-        ensures turn { Crosses R.TieRule.answer R.TieRule.told input (state_of S.Store.lists self.old) self.old.rule (state_of S.Store.lists self.new) self.new.rule }
+    fn cross(&mut self, port: Port)
+        ensures turn { Crosses R.TieRule.answer R.TieRule.told port.index (state_of S.Store.lists self.old) self.old.rule (state_of S.Store.lists self.new) self.new.rule }
         ensures size { S.Store.size self.new.store.store ≡ S.Store.size self.old.store.store }
     {
-        let Some(output) = self.choose_across(input) else {
+        let input = port.index;
+        let line = self.crossing[input];
+        let Some(output) = self.choose(line, input, || self.question_across(port)) else {
             return;
         };
-        self.start_across(input, output);
+        self.start_across(Flow { input, output });
         self.rule.tell(input, output);
     }
 
@@ -125,7 +126,7 @@ impl<S: Store, R: TieRule> Running<S, R> {
         ensures size { S.Store.size self.new.store.store ≡ S.Store.size self.old.store.store }
     {
         for i in 0..self.plan.size.ports {
-            self.cross(i);
+            self.cross(Port { index: i });
         }
     }
 }

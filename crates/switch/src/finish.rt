@@ -1,11 +1,13 @@
 //! The end of a step: what leaves by each output.
 ghost use Rattle.std.specs.Prelude.{◌≡◌, ◌<◌, ◌≤◌, ◌++◌, length, drop};
-ghost use Rattle.switch.specs.Calls.{state_of};
+ghost use Rattle.switch.specs.Calls.{Keeps, state_of};
 ghost use Rattle.state.specs.Finishes.{ends_at, leaving, finished, finish_to, listed_to};
 
-use crate::flow::ledger_at;
+use crate::flow::{ledger_at, set_ledger};
+use crate::port::Port;
 use crate::running::Running;
 use departure::Departure;
+use grid::Flow;
 use state::{Busy, Ledger};
 use store::Store;
 
@@ -13,47 +15,33 @@ use store::Store;
 fn ends_at(line: Option<Busy<Departure>>, tick: u64) -> Option<Departure>
     ensures { result ≡ ends_at tick line }
 {
-    match line {
-        None => None,
-        Some(busy) => {
-            if busy.until == tick && busy.load.input < 16 {
-                Some(busy.load)
-            } else {
-                None
-            }
-        }
-    }
+    line.filter(|busy| busy.until == tick && busy.load.input < 16)
+        .map(|busy| busy.load)
 }
 
 impl<S: Store, R> Running<S, R> {
     // Lets go what leaves by an output now.
-    fn finish(&mut self, output: usize) -> Option<Departure>
-        requires { output < 16 }
-        ensures answer { result ≡ leaving (state_of S.Store.lists self.old) output }
-        ensures state { state_of S.Store.lists self.new ≡ finished (state_of S.Store.lists self.old) output }
-        ensures size { S.Store.size self.new.store.store ≡ S.Store.size self.old.store.store }
-        ensures rule { self.new.rule ≡ self.old.rule }
+    fn finish(&mut self, port: Port) -> Option<Departure>
+        ensures answer { result ≡ leaving (state_of S.Store.lists self.old) port.index }
+        ensures state { state_of S.Store.lists self.new ≡ finished (state_of S.Store.lists self.old) port.index }
+        ensures kept { Keeps S.Store.size self.old self.new }
     {
-        let Some(load) = self.ended(output) else {
-            return None;
+        let output = port.index;
+        let load = ends_at(self.sending[output], self.clock)?;
+        let flow = Flow {
+            input: load.input,
+            output,
         };
-        let ledger = ledger_at(&self.ledgers, load.input, output);
+        let ledger = *ledger_at(&self.ledgers, flow);
         let _ = self.store.remove(load.input, output);
-        self.ledgers[16 * load.input + output] = Ledger {
-            departed: ledger.departed.wrapping_add(load.bytes as u64),
+        let left = Ledger {
+            departed: ledger.departed.wrapping_add(u64::from(load.bytes)),
             under_way: ledger.under_way.saturating_sub(1),
             ..ledger
         };
+        set_ledger(&mut self.ledgers, flow, left);
         self.sending[output] = None;
         Some(load)
-    }
-
-    // What leaves by an output now.
-    fn ended(&self, output: usize) -> Option<Departure>
-        requires { output < 16 }
-        ensures { result ≡ leaving (state_of S.Store.lists self.now) output }
-    {
-        ends_at(self.sending[output], self.clock)
     }
 
     // The same at all outputs, in order; what leaves is written over the first entries of the list. Answers how many they are.
@@ -62,12 +50,13 @@ impl<S: Store, R> Running<S, R> {
         ensures answer { result ≡ length (listed_to self.old.plan.size.ports (state_of S.Store.lists self.old)) }
         ensures list { out.new ≡ listed_to self.old.plan.size.ports (state_of S.Store.lists self.old) ++ drop result out.old }
         ensures state { state_of S.Store.lists self.new ≡ finish_to self.old.plan.size.ports (state_of S.Store.lists self.old) }
-        ensures size { S.Store.size self.new.store.store ≡ S.Store.size self.old.store.store }
-        ensures rule { self.new.rule ≡ self.old.rule }
+        ensures kept { Keeps S.Store.size self.old self.new }
     {
+        // Counted by hand: what leaves goes to the next free entry, and after a chain whose closure changes the switch no clause
+        // says what was changed.
         let mut count = 0;
         for j in 0..self.plan.size.ports {
-            if let Some(departure) = self.finish(j) {
+            if let Some(departure) = self.finish(Port { index: j }) {
                 out[count] = departure;
                 count += 1;
             }

@@ -12,6 +12,7 @@ mod draft;
 mod finish;
 mod flow;
 mod lines;
+mod port;
 mod quiet;
 mod ready;
 mod running;

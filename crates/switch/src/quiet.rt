@@ -4,71 +4,65 @@ ghost use Rattle.switch.specs.Calls.{PassesQuiet, state_of};
 ghost use Rattle.state.specs.Quiet.{sooner_of, input_next, inputs_next, column_next, output_next, outputs_next, next_event, at_tick, StillFor, QuietSteps, Passes};
 
 use crate::lines::{is_busy, until_of};
+use crate::port::{Port, by_port};
 use crate::ready::{across_from, out_from};
 use crate::running::Running;
 use plan::LAST_TICK;
-use store::{Packet, Store};
+use store::Store;
 use tie::TieRule;
 
 // The sooner of a tick and of what may happen from another on, but not before `floor`.
 fn sooner(best: u64, floor: u64, from: Option<u128>) -> u64
     ensures { result ≡ sooner_of best floor from }
 {
-    match from {
-        None => best,
-        Some(tick) => {
-            let at = tick.max(floor as u128);
-            if at < best as u128 { at as u64 } else { best }
+    from.map_or(best, |tick| {
+        let at = tick.max(u128::from(floor));
+        if at < u128::from(best) {
+            at as u64
+        } else {
+            best
         }
-    }
+    })
 }
 
 impl<S: Store, R> Running<S, R> {
     // The first tick, up to `best`, at which an input may start something.
-    fn next_at_input(&self, input: usize, best: u64) -> u64
-        requires { input < 16 }
-        ensures { result ≡ input_next (state_of S.Store.lists self.now) input 16 best }
+    fn next_at_input(&self, input: Port, best: u64) -> u64
+        ensures { result ≡ input_next (state_of S.Store.lists self.now) input.index 16 best }
     {
-        let mut next = best;
-        let until = until_of(self.crossing[input]);
-        for j in 0..16 {
-            next = sooner(next, until, across_from(self.next_across(input, j)));
-        }
-        next
+        let until = until_of(self.crossing[input.index]);
+        by_port(|output| across_from(self.next_across(input.to(output))))
+            .iter()
+            .fold(best, |next, from| sooner(next, until, *from))
     }
 
     // The same of all inputs.
     fn next_at_inputs(&self, best: u64) -> u64
         ensures { result ≡ inputs_next (state_of S.Store.lists self.now) self.now.plan.size.ports best }
     {
-        let mut next = best;
-        for i in 0..self.plan.size.ports {
-            next = self.next_at_input(i, next);
-        }
-        next
+        (0..self.plan.size.ports).fold(
+            best,
+            |next, index|
+                requires { index < 16 }
+            { self.next_at_input(Port { index }, next) },
+        )
     }
 
     // The first tick, up to `best`, at which an output may start something.
-    fn next_in_column(&self, output: usize, best: u64) -> u64
-        ensures { result ≡ column_next (state_of S.Store.lists self.now) output 16 best }
+    fn next_in_column(&self, output: Port, best: u64) -> u64
+        ensures { result ≡ column_next (state_of S.Store.lists self.now) output.index 16 best }
     {
-        let mut next = best;
-        for i in 0..16 {
-            next = sooner(
-                next,
-                0,
-                out_from(self.next_out(i, output), self.plan.size.longest),
-            );
-        }
-        next
+        let longest = self.plan.size.longest;
+        by_port(|input| out_from(self.next_out(input.to(output)), longest))
+            .iter()
+            .fold(best, |next, from| sooner(next, 0, *from))
     }
 
     // The same, or while the output is busy the tick whose step lets its packet leave.
-    fn next_at_output(&self, output: usize, best: u64) -> u64
-        requires { output < 16 }
-        ensures { result ≡ output_next (state_of S.Store.lists self.now) output best }
+    fn next_at_output(&self, output: Port, best: u64) -> u64
+        ensures { result ≡ output_next (state_of S.Store.lists self.now) output.index best }
     {
-        let line = self.sending[output];
+        let line = self.sending[output.index];
         if is_busy(line, self.clock) {
             return best.min(until_of(line).saturating_sub(1));
         }
@@ -79,11 +73,12 @@ impl<S: Store, R> Running<S, R> {
     fn next_at_outputs(&self, best: u64) -> u64
         ensures { result ≡ outputs_next (state_of S.Store.lists self.now) self.now.plan.size.ports best }
     {
-        let mut next = best;
-        for j in 0..self.plan.size.ports {
-            next = self.next_at_output(j, next);
-        }
-        next
+        (0..self.plan.size.ports).fold(
+            best,
+            |next, index|
+                requires { index < 16 }
+            { self.next_at_output(Port { index }, next) },
+        )
     }
 }
 

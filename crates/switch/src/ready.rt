@@ -11,22 +11,14 @@ use timing::Stamp;
 fn tick_from(stamp: Stamp) -> u128
     ensures { result ≡ tick_from stamp }
 {
-    let tick = stamp.tick() as u128;
-    if stamp.numerator() > 0 {
-        tick + 1
-    } else {
-        tick
-    }
+    u128::from(stamp.tick()) + u128::from(stamp.numerator() > 0)
 }
 
 // From when on a packet may start across: its virtual start.
 pub(crate) fn across_from(packet: Option<Packet>) -> Option<u128>
     ensures { result ≡ across_from packet }
 {
-    match packet {
-        None => None,
-        Some(p) => Some(tick_from(p.start)),
-    }
+    packet.map(|p| tick_from(p.start))
 }
 
 // From when on a packet may start out, if its crossing has started: once it has wholly crossed, and the longest packet's
@@ -34,37 +26,18 @@ pub(crate) fn across_from(packet: Option<Packet>) -> Option<u128>
 pub(crate) fn out_from(packet: Option<Packet>, longest: u32) -> Option<u128>
     ensures { result ≡ out_from longest packet }
 {
-    match packet {
-        None => None,
-        Some(p) => match p.crossing {
-            None => None,
-            Some(across) => {
-                let end = across as u128 + p.bytes as u128;
-                let start = tick_from(p.start);
-                let from = start + longest as u128;
-                Some(end.max(from))
-            }
-        },
-    }
+    let p = packet?;
+    let end = u128::from(p.crossing?) + u128::from(p.bytes);
+    let from = tick_from(p.start) + u128::from(longest);
+    Some(end.max(from))
 }
 
 // The mark at a tick of a packet that may start from another on: its virtual finish, once that tick has come.
 fn mark_from(packet: Option<Packet>, from: Option<u128>, tick: u64) -> Option<Stamp>
     ensures { result ≡ mark_from tick packet from }
 {
-    match packet {
-        None => None,
-        Some(p) => match from {
-            None => None,
-            Some(first) => {
-                if first <= tick as u128 {
-                    Some(p.finish)
-                } else {
-                    None
-                }
-            }
-        },
-    }
+    let p = packet?;
+    (from? <= u128::from(tick)).then_some(p.finish)
 }
 
 // The mark of the oldest packet that has not started across.

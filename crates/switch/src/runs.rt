@@ -24,6 +24,7 @@ impl<S: Store, R: TieRule> Running<S, R> {
         ensures law { Obeys (S.Store.size self.old.store.store) (state_of S.Store.lists self.old) (state_of S.Store.lists self.new) call result }
         ensures stated_size { S.Store.size self.new.store.store ≡ S.Store.size self.old.store.store }
     {
+        // A call is data, as a run is a list of any of them; so it is matched, and is no closure.
         match call {
             Call::Arrive {
                 input,
@@ -41,11 +42,8 @@ impl<S: Store, R: TieRule> Running<S, R> {
         ensures stated_size { S.Store.size self.new.store.store ≡ S.Store.size self.old.store.store }
     {
         let mut departures = [Departure::default(); 16];
-        let most = room.min(16);
-        match self.step(&mut departures[0..most]) {
-            Ok(count) => Ok(Listed { departures, count }),
-            Err(fault) => Err(fault),
-        }
+        let count = self.step(&mut departures[..room.min(16)])?;
+        Ok(Listed { departures, count })
     }
 }
 
@@ -59,6 +57,7 @@ pub fn perform<S: Store, R: TieRule>(
     ensures performed { IfOk result (λ done. Performs (S.Store.size draft.store.store) draft.plan (state_of S.Store.lists done.running) calls.now done.answers.items) }
     ensures given_back { IfErr result (λ failed. failed.value ≡ draft) }
 {
+    // No `?`: the error gives the draft back.
     let Ok(mut answers) = Vec::with_capacity(alloc, calls.len()) else {
         return Err(AllocFailed { value: draft });
     };

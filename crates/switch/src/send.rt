@@ -1,41 +1,33 @@
 //! The second half of a step: what each output starts. And the whole of a step.
 ghost use Rattle.std.specs.Prelude.{◌≡◌, ◌-◌, ◌^◌, ◌<◌, ◌≤◌, cond, ◌++◌, length, OnErr};
 ghost use Rattle.switch.specs.Calls.{state_of};
-ghost use Rattle.state.specs.Sends.{mark_out, marks_out, crossing_bytes, waits_out, question_out, next_out, departure_of, sent_with, choice_out, Sends, Sendings, Stepped, tick_of, ticked};
+ghost use Rattle.state.specs.Sends.{mark_out, marks_out, crossing_bytes, waits_out, question_out, next_out, departure_of, sent_with, Sends, Sendings, Stepped, ticked};
 ghost use Rattle.state.specs.Steps.{StepsSo};
 
 use crate::flow::{bytes_in, ledger_at};
-use crate::lines::{carries_to, is_busy};
+use crate::lines::carries;
+use crate::port::{Port, by_port};
 use crate::ready::mark_out;
 use crate::running::Running;
 use departure::Departure;
+use grid::Flow;
 use plan::{LAST_TICK, StepFault};
 use state::Busy;
 use store::{Packet, Store};
 use tie::{Question, TieRule};
 use timing::{Stamp, choose};
 
-// The tick at which a packet started across, 0 if it has not.
-fn tick_of(crossing: Option<u64>) -> u64
-    ensures { result ≡ tick_of crossing }
-{
-    match crossing {
-        None => 0,
-        Some(tick) => tick,
-    }
-}
-
 // The departure of a packet that starts out at a tick.
-fn departure_of(packet: Packet, input: usize, output: usize, tick: u64) -> Departure
-    ensures { result ≡ departure_of tick input output packet }
+fn departure_of(packet: Packet, flow: Flow, tick: u64) -> Departure
+    ensures { result ≡ departure_of tick flow.input flow.output packet }
 {
     Departure {
-        tick: tick.wrapping_add(packet.bytes as u64),
-        input,
-        output,
+        tick: tick.wrapping_add(u64::from(packet.bytes)),
+        input: flow.input,
+        output: flow.output,
         serial: packet.serial,
         arrival: packet.arrival,
-        crossing: tick_of(packet.crossing),
+        crossing: packet.crossing.unwrap_or(0),
         sending: tick,
         whole: packet.finish.tick(),
         numerator: u64::from(packet.finish.numerator()),
@@ -45,66 +37,57 @@ fn departure_of(packet: Packet, input: usize, output: usize, tick: u64) -> Depar
 
 impl<S: Store, R> Running<S, R> {
     // The oldest stored packet of a flow.
-    pub(crate) fn next_out(&self, input: usize, output: usize) -> Option<Packet>
-        ensures { result ≡ next_out (state_of S.Store.lists self.now) input output }
+    pub(crate) fn next_out(&self, flow: Flow) -> Option<Packet>
+        ensures { result ≡ next_out (state_of S.Store.lists self.now) flow.input flow.output }
     {
-        self.store.look(input, output, 0)
+        self.store.look(flow.input, flow.output, 0)
     }
 
     // The mark of that packet at its output.
-    fn mark_at_output(&self, input: usize, output: usize) -> Option<Stamp>
-        ensures { result ≡ mark_out self.now.plan.size.longest self.now.clock (next_out (state_of S.Store.lists self.now) input output) }
+    fn mark_at_output(&self, flow: Flow) -> Option<Stamp>
+        ensures { result ≡ mark_out self.now.plan.size.longest self.now.clock (next_out (state_of S.Store.lists self.now) flow.input flow.output) }
     {
-        mark_out(
-            self.next_out(input, output),
-            self.plan.size.longest,
-            self.clock,
-        )
-    }
-
-    // The marks at an output, by input.
-    fn marks_out(&self, output: usize) -> [Option<Stamp>; 16]
-        ensures { result ≡ marks_out (state_of S.Store.lists self.now) output }
-    {
-        let mut marks = [None; 16];
-        for i in 0..16 {
-            marks[i] = self.mark_at_output(i, output);
-        }
-        marks
+        mark_out(self.next_out(flow), self.plan.size.longest, self.clock)
     }
 
     // The bytes of a flow that are crossing.
-    fn crossing_bytes(&self, input: usize, output: usize) -> u64
-        requires { (input < 16) × (output < 16) }
-        ensures { result ≡ crossing_bytes (state_of S.Store.lists self.now) input output }
+    fn crossing_bytes(&self, flow: Flow) -> u64
+        ensures { result ≡ crossing_bytes (state_of S.Store.lists self.now) flow.input flow.output }
     {
-        if !carries_to(self.crossing[input], output, self.clock) {
+        if !carries(
+            self.crossing[flow.input],
+            |load| load,
+            flow.output,
+            self.clock,
+        ) {
             return 0;
         }
-        let ledger = ledger_at(&self.ledgers, input, output);
-        let newest = ledger.under_way.saturating_sub(1);
-        bytes_in(self.store.look(input, output, newest)) as u64
+        let newest = ledger_at(&self.ledgers, flow).under_way.saturating_sub(1);
+        u64::from(bytes_in(self.store.look(flow.input, flow.output, newest)))
+    }
+
+    // The marks at an output, by input.
+    fn marks_out(&self, output: Port) -> [Option<Stamp>; 16]
+        ensures { result ≡ marks_out (state_of S.Store.lists self.now) output.index }
+    {
+        by_port(|input| self.mark_at_output(input.to(output)))
     }
 
     // The bytes that wait at an output while it is free, by input.
-    fn waits_out(&self, output: usize) -> [u64; 16]
-        requires { output < 16 }
-        ensures { result ≡ waits_out (state_of S.Store.lists self.now) output }
+    fn waits_out(&self, output: Port) -> [u64; 16]
+        ensures { result ≡ waits_out (state_of S.Store.lists self.now) output.index }
     {
-        let mut waits = [0; 16];
-        for i in 0..16 {
-            let ledger = ledger_at(&self.ledgers, i, output);
-            let crossing = self.crossing_bytes(i, output);
+        by_port(|input| {
+            let flow = input.to(output);
+            let ledger = ledger_at(&self.ledgers, flow);
             let held = ledger.started.saturating_sub(ledger.departed);
-            waits[i] = held.saturating_sub(crossing);
-        }
-        waits
+            held.saturating_sub(self.crossing_bytes(flow))
+        })
     }
 
     // What an output asks the rule.
-    fn question_out(&self, output: usize) -> Question
-        requires { output < 16 }
-        ensures { result ≡ question_out (state_of S.Store.lists self.now) output }
+    fn question_out(&self, output: Port) -> Question
+        ensures { result ≡ question_out (state_of S.Store.lists self.now) output.index }
     {
         let marks = self.marks_out(output);
         Question {
@@ -114,47 +97,34 @@ impl<S: Store, R> Running<S, R> {
     }
 
     // Starts the oldest packet of a flow on its output, if there is one. It stays stored until it has left.
-    fn start_out(&mut self, input: usize, output: usize)
-        requires { output < 16 }
-        ensures state { state_of S.Store.lists self.new ≡ sent_with (next_out (state_of S.Store.lists self.old) input output) (state_of S.Store.lists self.old) input output }
+    fn start_out(&mut self, flow: Flow)
+        ensures state { state_of S.Store.lists self.new ≡ sent_with (next_out (state_of S.Store.lists self.old) flow.input flow.output) (state_of S.Store.lists self.old) flow.input flow.output }
         ensures store { self.new.store ≡ self.old.store }
         ensures rule { self.new.rule ≡ self.old.rule }
     {
-        let Some(packet) = self.next_out(input, output) else {
+        let Some(packet) = self.next_out(flow) else {
             return;
         };
-        let load = departure_of(packet, input, output, self.clock);
-        self.sending[output] = Some(Busy {
-            load,
-            until: self.clock.wrapping_add(packet.bytes as u64),
+        self.sending[flow.output] = Some(Busy {
+            load: departure_of(packet, flow, self.clock),
+            until: self.clock.wrapping_add(u64::from(packet.bytes)),
         });
     }
 }
 
 impl<S: Store, R: TieRule> Running<S, R> {
-    // The input from which an output starts a packet now: none while its line is busy.
-    fn choose_out(&self, output: usize) -> Option<usize>
-        requires { output < 16 }
-        ensures { result ≡ choice_out R.TieRule.answer R.TieRule.told (state_of S.Store.lists self.now) self.now.rule output }
-    {
-        if is_busy(self.sending[output], self.clock) {
-            return None;
-        }
-        let question = self.question_out(output);
-        self.rule.ask(self.plan.size.ports + output, &question)
-    }
-
     // An output's turn in a step.
-    fn send(&mut self, output: usize)
-        requires { output < 16 }
-        ensures turn { Sends R.TieRule.answer R.TieRule.told output (state_of S.Store.lists self.old) self.old.rule (state_of S.Store.lists self.new) self.new.rule }
+    fn send(&mut self, port: Port)
+        ensures turn { Sends R.TieRule.answer R.TieRule.told port.index (state_of S.Store.lists self.old) self.old.rule (state_of S.Store.lists self.new) self.new.rule }
         ensures store { self.new.store ≡ self.old.store }
     {
-        let Some(input) = self.choose_out(output) else {
+        let output = port.index;
+        let line = self.sending[output];
+        let code = self.plan.size.ports + output;
+        let Some(input) = self.choose(line, code, || self.question_out(port)) else {
             return;
         };
-        self.start_out(input, output);
-        let code = self.plan.size.ports + output;
+        self.start_out(Flow { input, output });
         self.rule.tell(code, input);
     }
 
@@ -164,7 +134,7 @@ impl<S: Store, R: TieRule> Running<S, R> {
         ensures store { self.new.store ≡ self.old.store }
     {
         for j in 0..self.plan.size.ports {
-            self.send(j);
+            self.send(Port { index: j });
         }
     }
 

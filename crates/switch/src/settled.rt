@@ -5,6 +5,7 @@ ghost use Rattle.state.specs.Reports.{lengths, report_answer, Reports};
 
 use crate::flow::{bytes_in, ledger_at};
 use crate::running::Running;
+use grid::Flow;
 use plan::Plan;
 use state::{Report, ReportFault};
 use store::Store;
@@ -35,15 +36,14 @@ impl<S, R> Settled<S, R> {
 
 impl<S: Store, R> Settled<S, R> {
     // The lengths of a flow's stored packets added up.
-    fn stored_bytes(&self, input: usize, output: usize) -> u128
-        ensures value { result ≡ lengths (S.Store.lists self.now.running.store.store input output) }
+    fn stored_bytes(&self, flow: Flow) -> u128
+        ensures value { result ≡ lengths (S.Store.lists self.now.running.store.store flow.input flow.output) }
         ensures bound { result < 2 ^ 96 }
     {
-        let mut sum = 0u128;
-        for k in 0..self.running.store.count(input, output) {
-            sum += bytes_in(self.running.store.look(input, output, k)) as u128;
-        }
-        sum
+        let store = &self.running.store;
+        (0..store.count(flow.input, flow.output))
+            .map(|k| u128::from(bytes_in(store.look(flow.input, flow.output, k))))
+            .sum()
     }
 
     /// A flow's peak, and its bytes accepted and departed.
@@ -51,12 +51,11 @@ impl<S: Store, R> Settled<S, R> {
         ensures answer { result ≡ report_answer (state_of S.Store.lists self.now.running) input output }
         ensures law { Reports (state_of S.Store.lists self.now.running) input output result }
     {
-        let Ok(_) = self.running.plan.weight(input, output) else {
-            return Err(ReportFault::Port);
-        };
-        let ledger = ledger_at(&self.running.ledgers, input, output);
-        let inside = self.stored_bytes(input, output);
-        if ledger.accepted as u128 != ledger.departed as u128 + inside {
+        self.running.plan.weight(input, output)?;
+        let flow = Flow { input, output };
+        let ledger = ledger_at(&self.running.ledgers, flow);
+        let inside = self.stored_bytes(flow);
+        if u128::from(ledger.accepted) != u128::from(ledger.departed) + inside {
             return Err(ReportFault::Unbalanced);
         }
         Ok(Report {

@@ -39,7 +39,7 @@ returns g c =
             between = mid.rule;
             sent = sent-st;
             inputs = c.cross_all.ensures.turns;
-            outputs = subst (Sendings g.R.TieRule.answer g.R.TieRule.told (shown (g.S.Store.lists mid.store.store) mid) mid.rule mid.plan.size.ports sent-st) (sym f.rule) c.send_all.ensures.turns;
+            outputs = subst (Sendings g.R.TieRule.answer g.R.TieRule.told (shown (g.S.Store.lists mid.store.store) mid) mid.rule mid.plan.size.ports sent-st) (sym f.kept.rule_kept) c.send_all.ensures.turns;
             state = f.state ∙ ap (finish_to N) tick;
             leaves = ap (listed_to N) tick;
           },
@@ -48,5 +48,5 @@ returns g c =
         ),
       );
       refused = tt;
-      size = f.size ∙ ap (λ x. g.S.Store.size x.store) c.send_all.ensures.store ∙ c.cross_all.ensures.size;
+      size = f.kept.size_kept ∙ ap (λ x. g.S.Store.size x.store) c.send_all.ensures.store ∙ c.cross_all.ensures.size;
     }

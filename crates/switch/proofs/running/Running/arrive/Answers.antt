@@ -22,8 +22,8 @@ returns g c =
       answer = done.answer;
       state = done.state;
       refused = done.refused;
-      stated_size = done.stated_size;
-      rule = done.rule;
+      stated_size = done.kept.size_kept;
+      rule = done.kept.rule_kept;
       law = subst (λ (after : State). CarriesOn (ArriveLeads M (full i j) (plan_of s.plan) i j b c.accept.result) M st after (runs.arrive i j b) (arrive_told c.accept.result)) (sym done.state)
           (arrive_carries M full st i j b (λ few. g.met.S.Store.room s.store.store few i j) (λ many. g.met.S.Store.full_at_most s.store.store many i j) c.accept.result done.answer);
     }

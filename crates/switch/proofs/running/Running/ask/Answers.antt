@@ -1,36 +1,34 @@
-use Rattle.std.proofs.Common.{◌≡◌, cond, Some, None, Ok, Err, sym, ap, ◌∙◌}
-use Rattle.plan.specs.Refusals.{unless}
+use Rattle.std.proofs.Common.{◌≡◌, Ok, Err, sym, ◌∙◌, rules}
 use Rattle.plan.specs.Weights.{weight_of, has_flow}
-use Rattle.plan.specs.declared.fault.PortFault.TheVariants as fault
-use Rattle.switch.specs.Shown.{shown}
 use Rattle.state.specs.Asks.{numbers_of, ask_answer}
-use Rattle.state.proofs.ArrivalInCode.{ok_cond, flow_ports}
-use Rattle.state.proofs.AskCarries.{ask_carries, weight_read, port_refused}
+use Rattle.state.proofs.AskCarries.{ask_carries, weight_read}
+use Rattle.switch.specs.Calls.{state_of}
+use Rattle.switch.proofs.Weights.{found, passed_on}
 use Rattle.switch.proofs.running.Running.ask.Goals as goal
 
-pub returns-in_default : goal.returns-in_default
-returns-in_default g c =
+pub returns-in_err-weight : goal.returns-in_err-weight
+returns-in_err-weight g c =
     let s = c.args.self.now in
     let i = c.args.input in
     let j = c.args.output in
-    let st = shown (g.S.Store.lists s.store.store) s in
-    let M = g.S.Store.size s.store.store in
-    let out = port_refused (has_flow s.plan i j) (weight_of s.plan i j) c.in_default.field-0 (sym c.weight.ensures ∙ c.in_default.is) in
-    let answer : Err fault.Port ≡ ask_answer st i j = ap (λ v. unless (cond v None (Some fault.Port)) (numbers_of st i j (weight_of s.plan i j))) (sym out) in
-    record { answer = answer; law = ask_carries M st i j (Err fault.Port) answer }
+    let st = state_of g.S.Store.lists s in
+    let e = c.in_err-weight.field-0.0 in
+    let r = c.from_residual.result in
+    let is : r ≡ Err e = search rules in
+    let answer : r ≡ ask_answer st i j = is ∙ passed_on (has_flow s.plan i j) (weight_of s.plan i j) e (numbers_of st i j (weight_of s.plan i j)) (sym c.in_err-weight.ensures) in
+    record { answer = answer; law = ask_carries (g.S.Store.size s.store.store) st i j r answer }
 
-pub numbers-requires : goal.numbers-requires
-numbers-requires g c =
-    let s = c.args.self.now in
-    let st = shown (g.S.Store.lists s.store.store) s in
-    flow_ports st c.args.input c.args.output (ok_cond (has_flow s.plan c.args.input c.args.output) (weight_of s.plan c.args.input c.args.output) c.in-Ok.weight _ (sym c.weight.ensures ∙ c.in-Ok.is)).0
+pub invariant_of-numbers : goal.invariant_of-numbers
+invariant_of-numbers g c =
+    let f = found c.args.self.now.plan c.args.input c.args.output c.in_ok-weight.weight (sym c.in_ok-weight.ensures) in
+    record { from_inside = f.from_inside; to_inside = f.to_inside }
 
 pub returns : goal.returns
 returns g c =
     let s = c.args.self.now in
     let i = c.args.input in
     let j = c.args.output in
-    let st = shown (g.S.Store.lists s.store.store) s in
-    let M = g.S.Store.size s.store.store in
-    let answer : Ok c.numbers.result ≡ ask_answer st i j = weight_read (has_flow s.plan i j) (weight_of s.plan i j) c.in-Ok.weight (numbers_of st i j) c.numbers.result (sym c.weight.ensures ∙ c.in-Ok.is) c.numbers.ensures in
-    record { answer = answer; law = ask_carries M st i j (Ok c.numbers.result) answer }
+    let st = state_of g.S.Store.lists s in
+    let n = c.numbers.result in
+    let answer : Ok n ≡ ask_answer st i j = weight_read (has_flow s.plan i j) (weight_of s.plan i j) c.in_ok-weight.weight (numbers_of st i j) n (sym c.in_ok-weight.ensures) c.numbers.ensures in
+    record { answer = answer; law = ask_carries (g.S.Store.size s.store.store) st i j (Ok n) answer }

@@ -1,12 +1,13 @@
-use Rattle.std.proofs.Common.{sym, ◌∙◌, arith}
-use Rattle.switch.specs.Shown.{shown}
-use Rattle.state.proofs.StartInCode.{choice_below}
+use Rattle.std.proofs.Common.{sym, ◌∙◌, rules}
+use Rattle.state.specs.Crosses.{question_across}
+use Rattle.switch.specs.Calls.{state_of}
+use Rattle.switch.proofs.Chosen.{asked_below}
 use Rattle.switch.proofs.running.Running.cross.Goals as goal
 
-pub start_across-requires : goal.start_across-requires
-start_across-requires g c =
-    let s = c.args.self.now in
-    let st = shown (g.S.Store.lists s.store.store) s in (
-      omega arith,
-      choice_below g.R.TieRule.answer g.R.TieRule.told g.met.R.TieRule.picks_tied st s.rule c.args.input c.in-Some.output (sym c.choose_across.ensures ∙ c.in-Some.is),
-    )
+pub invariant_of-start_across : goal.invariant_of-start_across
+invariant_of-start_across g c =
+    let st = state_of g.S.Store.lists c.args.self.now in
+    record {
+      from_inside = c.args.port.inside;
+      to_inside = asked_below (g.met.R.TieRule.picks_tied c.args.self.now.rule) _ _ _ _ (sym (c.choose.ensures (question_across st c.args.port.index) (λ x k. search rules)) ∙ c.in-Some.is);
+    }

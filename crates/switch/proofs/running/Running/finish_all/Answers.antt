@@ -7,7 +7,7 @@ use Rattle.switch.proofs.running.Running.finish_all.Goals as goal
 
 pub loop-j-init : goal.loop-j-init
 unfolding finish_to listed_to
-loop-j-init g c = (omega arith, refl, refl, refl, refl, refl)
+loop-j-init g c = (omega arith, refl, refl, refl, record { size_kept = refl; rule_kept = refl })
 
 pub loop-j-preserved : goal.loop-j-preserved
 loop-j-preserved g c =
@@ -24,4 +24,4 @@ loop-j-preserved g c =
       | goal.in-Some w ↦ written_as _ _ _ _ (j + 1) c.args.out.now st w.count-is w.out-is (written_some j c.loop-j.count w.in-Some.departure c.loop-j.out c.args.out.now st (v.0, v.1, v.2) few (out ∙ w.in-Some.is))
       | goal.in_default w ↦ written_as _ _ _ _ (j + 1) c.args.out.now st w.count-is w.out-is (written_none j c.loop-j.count c.loop-j.out c.args.out.now st (v.0, v.1, v.2) (out ∙ w.in_default.is))
     ] in
-    (t.0, t.1, t.2, state, e.size ∙ v.4, e.rule ∙ v.5)
+    (t.0, t.1, t.2, state, record { size_kept = e.kept.size_kept ∙ v.4.size_kept; rule_kept = e.kept.rule_kept ∙ v.4.rule_kept })

@@ -1,15 +1,14 @@
-use Rattle.std.proofs.Common.{sym, refl, ap, ◌∙◌}
-use Rattle.switch.specs.Shown.{shown}
+use Rattle.std.proofs.Common.{◌∙◌, rules}
+use Rattle.switch.specs.Calls.{state_of}
 use Rattle.state.specs.Quiet.{input_next, inputs_next}
 use Rattle.state.proofs.NextEvent.{inputs_more}
+use Rattle.switch.proofs.Counted.{counted, folded}
 use Rattle.switch.proofs.running.Running.next_at_inputs.Goals as goal
 
-pub loop-i-init : goal.loop-i-init
+pub returns : goal.returns
 unfolding inputs_next
-loop-i-init g c = refl
-
-pub loop-i-preserved : goal.loop-i-preserved
-loop-i-preserved g c =
-    let s = c.args.self.now in
-    let st = shown (g.S.Store.lists s.store.store) s in
-    c.next_at_input-next.ensures ∙ ap (input_next st c.loop-i.i 16) c.loop-i.invariant ∙ sym (inputs_more st c.loop-i.i c.args.best)
+returns g c =
+    let st = state_of g.S.Store.lists c.args.self.now in
+    let n = c.args.self.now.plan.size.ports in
+    folded _ (λ next i. input_next st i 16 next) _ n c.args.best c.fold.result (λ x a b f call. search rules) c.fold.ensures.ran
+    ∙ counted (λ next i. input_next st i 16 next) (λ k. k) (λ k. inputs_next st k c.args.best) (λ k. inputs_more st k c.args.best) n

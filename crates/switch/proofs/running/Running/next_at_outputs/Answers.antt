@@ -1,15 +1,14 @@
-use Rattle.std.proofs.Common.{sym, refl, ap, ◌∙◌}
-use Rattle.switch.specs.Shown.{shown}
+use Rattle.std.proofs.Common.{◌∙◌, rules}
+use Rattle.switch.specs.Calls.{state_of}
 use Rattle.state.specs.Quiet.{output_next, outputs_next}
 use Rattle.state.proofs.NextEvent.{outputs_more}
+use Rattle.switch.proofs.Counted.{counted, folded}
 use Rattle.switch.proofs.running.Running.next_at_outputs.Goals as goal
 
-pub loop-j-init : goal.loop-j-init
+pub returns : goal.returns
 unfolding outputs_next
-loop-j-init g c = refl
-
-pub loop-j-preserved : goal.loop-j-preserved
-loop-j-preserved g c =
-    let s = c.args.self.now in
-    let st = shown (g.S.Store.lists s.store.store) s in
-    c.next_at_output-next.ensures ∙ ap (output_next st c.loop-j.j) c.loop-j.invariant ∙ sym (outputs_more st c.loop-j.j c.args.best)
+returns g c =
+    let st = state_of g.S.Store.lists c.args.self.now in
+    let n = c.args.self.now.plan.size.ports in
+    folded _ (λ next j. output_next st j next) _ n c.args.best c.fold.result (λ x a b f call. search rules) c.fold.ensures.ran
+    ∙ counted (λ next j. output_next st j next) (λ k. k) (λ k. outputs_next st k c.args.best) (λ k. outputs_more st k c.args.best) n

@@ -1,16 +1,22 @@
-use Rattle.std.proofs.Common.{sym, refl, ap, ◌∙◌}
-use Rattle.switch.specs.Shown.{shown}
+use Rattle.std.proofs.Common.{◌≡◌, map, fold, ap, ◌∙◌, rules}
+use Rattle.std.specs.List.{range_with_len}
+use Rattle.std.proofs.iter.runs.Made.{chains}
+use Rattle.switch.specs.Calls.{state_of}
 use Rattle.state.specs.Ready.{out_from}
-use Rattle.state.specs.Quiet.{column_next}
-use Rattle.state.proofs.NextEvent.{column_more, sooner_same}
+use Rattle.state.specs.Sends.{next_out}
+use Rattle.state.specs.Quiet.{sooner_of, column_next}
+use Rattle.state.proofs.NextEvent.{column_more}
+use Rattle.switch.proofs.Counted.{counted}
 use Rattle.switch.proofs.running.Running.next_in_column.Goals as goal
 
-pub loop-i-init : goal.loop-i-init
+pub returns : goal.returns
 unfolding column_next
-loop-i-init g c = refl
-
-pub loop-i-preserved : goal.loop-i-preserved
-loop-i-preserved g c =
+returns g c =
     let s = c.args.self.now in
-    let st = shown (g.S.Store.lists s.store.store) s in
-    c.sooner-next.ensures ∙ sooner_same _ _ _ _ _ _ c.loop-i.invariant refl (c.out_from.ensures ∙ ap (out_from s.plan.size.longest) c.next_out.ensures) ∙ sym (column_more st c.args.output c.loop-i.i c.args.best)
+    let st = state_of g.S.Store.lists s in
+    let j = c.args.output.index in
+    let L = s.plan.size.longest in
+    let row : c.by_port.result ≡ map (λ i. out_from L (next_out st i j)) (range_with_len 0 16) = c.by_port.ensures (λ i. out_from L (next_out st i j)) (λ port x k. search rules) in
+    let read : c.fold.result ≡ fold (λ next from. sooner_of next 0 from) c.args.best c.by_port.result = search (rules, chains) in
+    read ∙ ap (fold (λ next from. sooner_of next 0 from) c.args.best) row
+    ∙ counted (λ next from. sooner_of next 0 from) (λ i. out_from L (next_out st i j)) (λ n. column_next st j n c.args.best) (λ k. column_more st j k c.args.best) 16

@@ -1,21 +1,21 @@
-use Rattle.std.proofs.Common.{◌≡◌, length, sym, refl, ◌∙◌, arith, rules, None}
-use Rattle.grid.proofs.Flows.{flows_set}
-use Rattle.state.specs.State.{fresh}
-use Rattle.switch.specs.Shown.{shown}
+use Rattle.std.proofs.Common.{◌≡◌, ◌+◌, ◌%◌, ◌^◌, length, None, sym, ap, ◌∙◌, arith, rules}
+use Rattle.switch.specs.Calls.{state_of}
+use Rattle.grid.specs.Flows.{with_flow}
+use Rattle.state.specs.Lines.{with_line, busy}
 use Rattle.state.proofs.StartInCode.{crossed_is}
 use Rattle.state.proofs.Lists.{lines_set}
 use Rattle.switch.proofs.running.Running.start_across.Goals as goal
 
-pub returns : goal.returns
-returns g c =
+pub returns-clause-state : goal.returns-clause-state
+returns-clause-state g c =
     let s = c.args.self.now in
-    let st = shown (g.S.Store.lists s.store.store) s in
-    let long : length s.crossing ≡ 16 = search rules in
+    let st = state_of g.S.Store.lists s in
+    let f = c.args.flow in
+    let l = c.ledger_at-ledger.result.now in
     let n = c.note.ensures in
-    record {
-      state = crossed_is st c.args.input c.args.output c.ledger_at-ledger.result c.in-Some.packet c.max.result c.note.result _ _ _ _
-          (lines_set None s.crossing c.args.input _ (omega (arith, long))) (flows_set fresh s.ledgers c.args.input c.args.output _ (omega arith) (omega arith) (search rules))
-          c.ledger_at-ledger.ensures (sym c.next_across.ensures ∙ c.in-Some.is) (search rules) n.granted n.lists n.counts;
-      size = n.size;
-      rule = refl;
-    }
+    let bytes : c.from-bytes.result ≡ c.in-Some.packet.bytes = search rules in
+    let long : length s.crossing ≡ 16 = search rules in
+    crossed_is st f.input f.output l c.in-Some.packet c.max.result c.note.result _ _ _ _
+    (lines_set None s.crossing f.input _ (omega arith) ∙ ap (λ b. with_line st.crossing f.input (busy f.output ((s.clock + b) % 2 ^ 64))) bytes)
+    (c.set_ledger.ensures ∙ ap (λ b. with_flow st.ledgers f.input f.output record l { started = (l.started + b) % 2 ^ 64; peak = c.max.result; under_way = (l.under_way + 1) % 2 ^ 64 }) bytes)
+    c.ledger_at-ledger.ensures (sym c.next_across.ensures ∙ c.in-Some.is) (search rules) n.granted n.lists n.counts

@@ -1,7 +1,0 @@
-use Rattle.std.proofs.Common.{◌≡◌}
-use Rattle.switch.specs.Shown.{shown}
-use Rattle.state.specs.Quiet.{inputs_next}
-use Rattle.switch.proofs.running.Running.next_at_inputs.Given as goal
-
-abbrev pub invariant-loop-i : goal.invariant-loop-i
-invariant-loop-i g l = l.next ≡ inputs_next (shown (g.S.Store.lists l.self.store.store) l.self) l.i l.best
