@@ -32,6 +32,7 @@ impl<S: NamedStore, R: NamedRule> Player<S, R> {
     ghost use Rattle.replay.specs.Replay.{at_start};
     ghost use Rattle.player.specs.Plays.{Offers, Plays, Ticks, kind_with};
 
+    // Each clause names five members of S and R: a definition cannot name the members of a bound for it.
     /// Seals a draft: the clock stands at 0, and nothing is inside.
     pub fn new(draft: Draft<S, R>) -> Player<S, R>
         ensures { Plays S.Store.lists S.Store.size (plan_of draft.plan) (at_start (plan_of draft.plan) (kind_with S.NamedStore.sign R.TieRule.answer R.NamedRule.next draft.rule)) result }
@@ -56,7 +57,7 @@ impl<S: NamedStore, R: NamedRule> Player<S, R> {
         };
         self.count = count;
         self.inside = self.inside.saturating_sub(count);
-        self.bytes = self.bytes.wrapping_add(bytes_in(&self.list[0..count]));
+        self.bytes = self.bytes.wrapping_add(bytes_in(&self.list[..count]));
     }
 
     /// A packet comes to a flow at the present tick.
@@ -76,7 +77,7 @@ impl<S, R> Player<S, R> {
     pub fn departures(&self) -> &[Departure]
         ensures { result.now ≡ left_now self.now }
     {
-        &self.list[0..self.count]
+        &self.list[..self.count]
     }
 
     /// The present tick.

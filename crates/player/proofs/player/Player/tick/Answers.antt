@@ -1,4 +1,4 @@
-use Rattle.std.proofs.Common.{◌≡◌, ℕ, ◌+◌, ◌-◌, ◌%◌, ◌^◌, ◌≤◌, ◌++◌, length, take, drop, ap, ◌∙◌, arith}
+use Rattle.std.proofs.Common.{◌≡◌, ℕ, ◌+◌, ◌-◌, ◌%◌, ◌^◌, ◌≤◌, length, take, drop, ap, ◌∙◌, arith}
 use Rattle.std.proofs.lemmas.List.{length-take-le, take-append-le}
 use Rattle.plan.specs.declared.table.Plan.{Plan}
 use Rattle.player.proofs.Ticked.{plays_on}
@@ -19,8 +19,6 @@ returns g c plan first x plays early =
     let room : n - 0 ≤ length p.list = omega arith in
     let rest = drop (n - 0) p.list in
     let long = length-take-le (n - 0) p.list room in
-    let whole : count - 0 ≡ count = omega arith in
-    let within : count ≤ length new = omega (arith, done.few, done.entries) in
+    let left = take-append-le count new rest (omega (arith, done.few, done.entries)) in
     plays_on g.S.Store.lists g.S.Store.size kind g.R.TieRule.told g.met.R.NamedRule.keeps_next g.met.R.TieRule.picks_tied p _ (take (n - 0) p.list) new (long ∙ omega (arith, ports)) count done
-    (take-append-le count new rest within) c.saturating_sub-self.ensures
-    (ap (λ (b : ℕ). (p.bytes + b) % 2 ^ 64) (c.bytes_in.ensures ∙ ap bytes_in (ap (λ (k : ℕ). take k (new ++ rest)) whole ∙ take-append-le count new rest within))) plan x plays
+    left c.saturating_sub-self.ensures (ap (λ (b : ℕ). (p.bytes + b) % 2 ^ 64) (c.bytes_in.ensures ∙ ap bytes_in left)) plan x plays
