@@ -7,6 +7,7 @@ ghost use Rattle.store.specs.Counts.{counts};
 
 use crate::meaning::Store;
 use crate::packet::{Incoming, Packet};
+use grid::Flow;
 
 /// A store whose packets are numbered: the lists, the signs and the stated size of the store below, and for each flow
 /// how many packets were taken since the last clear, modulo 2^64.
@@ -49,23 +50,16 @@ impl<S: Store> Numbered<S> {
         ensures size { S.Store.size self.new.store ≡ S.Store.size self.old.store }
         ensures refused { result ≡ false → self.new ≡ self.old }
     {
-        if input >= 16 || output >= 16 {
+        let Some(flow) = Flow::new(input, output) else {
             return false;
-        }
-        let serial = self.taken[16 * input + output];
-        let packet = Packet {
-            serial,
-            arrival: incoming.arrival,
-            bytes: incoming.bytes,
-            start: incoming.start,
-            finish: incoming.finish,
-            crossing: None,
         };
-        if !self.store.put(input, output, packet) {
-            return false;
+        let cell = flow.cell();
+        let serial = self.taken[cell];
+        let granted = self.store.put(input, output, incoming.numbered(serial));
+        if granted {
+            self.taken[cell] = serial.wrapping_add(1);
         }
-        self.taken[16 * input + output] = serial.wrapping_add(1);
-        true
+        granted
     }
 
     /// The k-th oldest packet of a flow, counted from 0.

@@ -1,6 +1,6 @@
 //! A packet as it is stored, and as it comes in.
 ghost use Rattle.std.specs.Prelude.{◌≡◌};
-ghost use Rattle.store.specs.Stored.{started_across};
+ghost use Rattle.store.specs.Stored.{numbered, started_across};
 
 use timing::Stamp;
 
@@ -38,4 +38,20 @@ pub struct Incoming {
     pub bytes: u32,
     pub start: Stamp,
     pub finish: Stamp,
+}
+
+impl Incoming {
+    // The packet stored for it, under a serial.
+    pub(crate) fn numbered(self, serial: u64) -> Packet
+        ensures { result ≡ numbered serial self }
+    {
+        Packet {
+            serial,
+            arrival: self.arrival,
+            bytes: self.bytes,
+            start: self.start,
+            finish: self.finish,
+            crossing: None,
+        }
+    }
 }
