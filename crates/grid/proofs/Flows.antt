@@ -1,8 +1,8 @@
 -- Laws of a table of 256 cells with one for each flow. Assumes nothing.
-use Rattle.std.proofs.Common.{◌≡◌, ℕ, ◌+◌, ◌*◌, ◌<◌, ◌≤◌, true, false, cond, ◌&&◌, eqb, ltb, List, length, get_or, set, replicate, refl, ap, ◌∙◌, ⊎_elim, arith}
+use Rattle.std.proofs.Common.{◌≡◌, ℕ, ◌+◌, ◌*◌, ◌<◌, ◌≤◌, true, false, cond, ◌&&◌, eqb, ltb, List, length, get_or, set, replicate, sym, refl, ap, ◌∙◌, ⊎_elim, arith}
 use mathlib.Core.Path.{fun_ext}
 use Rattle.std.proofs.lemmas.Bool.Decides.{nat_tests}
-use Rattle.std.proofs.lemmas.Bool.{lt-ltb, ltb-true, eq-eqb, cases_lt, cases_eq, cond_both, and_parts}
+use Rattle.std.proofs.lemmas.Bool.{lt-ltb, ltb-true, eqb-true, eq-eqb, cases_lt, cases_eq, cond_both, and_parts}
 use Rattle.std.proofs.lemmas.List.{get_or-set_same, get_or-set_other, get_or-replicate, get_or_past, length-replicate, get_or_default}
 use Rattle.grid.specs.Flows.{in_grid, flow_of, flow_in, with_flow}
 
@@ -15,6 +15,13 @@ ports_inside i j h =
 pub with_flow_map : {X Y : Type 0} (f : X → Y) (table : ℕ → ℕ → X) (i j : ℕ) (x : X) → (λ (a b : ℕ). f (with_flow table i j x a b)) ≡ with_flow (λ a b. f (table a b)) i j (f x)
 with_flow_map f table i j x =
     fun_ext (λ a. fun_ext (λ b. elim (eqb a i && eqb b j) as (λ t. f (cond t x (table a b)) ≡ cond t (f x) (f (table a b))) [ true ↦ refl | false ↦ refl ]))
+
+-- no change
+pub with_flow_same : {X : Type 0} (table : ℕ → ℕ → X) (i j : ℕ) → with_flow table i j (table i j) ≡ table
+with_flow_same table i j =
+    fun_ext (λ a. fun_ext (λ b. cond_both (eqb a i && eqb b j) (table i j) (table a b) (λ x. x ≡ table a b)
+    (λ same. let both = and_parts (eqb a i) (eqb b j) same in ap (λ (k : ℕ). table k j) (sym (eqb-true a i both.0)) ∙ ap (table a) (sym (eqb-true b j both.1)))
+    (λ _. refl)))
 
 module _ {X : Type 0} (d : X) where
   -- inside the ports, an entry is its cell
@@ -57,6 +64,14 @@ module _ {X : Type 0} (d : X) where
       flows_change (λ k. get_or cells k d) (λ k. get_or (set cells (16 * i + j) x) k d) i j x hi hj
       (get_or-set_same cells (16 * i + j) x d (omega arith))
       (λ k _ ne. get_or-set_other cells (16 * i + j) k x d ne)
+
+  -- the same two of the cell of a flow
+  module _ (cells : List X) (i j cell : ℕ) (inside : in_grid i j ≡ true) (at : cell ≡ 16 * i + j) (long : length cells ≡ 256) where
+    pub flow_at : (x : X) → flow_in d cells i j ≡ get_or cells cell x
+    flow_at x = let ports = ports_inside i j inside in rw at (flow_read cells i j x ports.0 ports.1 long)
+
+    pub flow_set : (x : X) → flow_in d (set cells cell x) ≡ with_flow (flow_in d cells) i j x
+    flow_set x = let ports = ports_inside i j inside in rw at (flows_set cells i j x ports.0 ports.1 long)
 
   -- a table of equal cells
   get_or_same : (n k : ℕ) → get_or (replicate n d) k d ≡ d

@@ -1,19 +1,20 @@
 -- What a store of rings means.
-use Rattle.std.specs.Prelude.{ℕ, Bool, true, cond, List, [], ◌∷◌, length, nat_le}
+use Rattle.std.specs.Prelude.{ℕ, Bool, ◌≤◌, true, cond, List, [], length, nat_le, slice_index_or}
+use Rattle.arrayvec.specs.ArrayVec.{ArrayVec}
 use Rattle.store.specs.declared.packet.Packet.{Packet}
 use Rattle.grid.specs.Flows.{in_grid, flow_in}
-use Rattle.rings.specs.declared.ring.Ring.{Ring}
-use Rattle.rings.specs.declared.ring.Ring.TheVariants.{Empty, One, Two}
 
--- the packets of a ring, oldest first
-abbrev pub packets_in : Ring → List Packet
-packets_in Empty = []
-packets_in (One p) = p ∷ []
-packets_in (Two p q) = p ∷ q ∷ []
+-- a ring with no packet
+abbrev pub empty : ArrayVec Packet
+empty = record { items = [] }
 
 -- the packets of each flow, from one ring for each
-abbrev pub lists_in : List Ring → ℕ → ℕ → List Packet
-lists_in rings i j = packets_in (flow_in Empty rings i j)
+abbrev pub lists_in : List (ArrayVec Packet) → ℕ → ℕ → List Packet
+lists_in rings i j = (flow_in empty rings i j).items
+
+-- no ring has more than two packets
+abbrev pub AtMostTwo : List (ArrayVec Packet) → Type 0
+AtMostTwo rings = (k : ℕ) → length (slice_index_or rings k empty).items ≤ 2
 
 -- a flow of ports 0 to 15 is full at two packets, any other always
 abbrev pub full_at_two : (ℕ → ℕ → List Packet) → ℕ → ℕ → Bool

@@ -1,21 +1,24 @@
 //! The store of rings.
 ghost use Rattle.std.specs.Prelude.{◌≡◌, ℕ, [], length};
-ghost use Rattle.rings.specs.Held.{lists_in, full_at_two};
+ghost use Rattle.rings.specs.Held.{lists_in, full_at_two, AtMostTwo};
 ghost use Rattle.std.proofs.Common.{arith, rules};
 ghost use Rattle.grid.specs.Flows.{flow_in};
 ghost use Rattle.grid.proofs.Sums.{flow_sum_le, flow_sum_at_least};
-ghost use Rattle.rings.specs.declared.ring.Ring.TheVariants.{Empty};
 ghost use Rattle.rings.specs.Limit.{at_most_two};
 ghost use Rattle.std.proofs.lemmas.Bool.Decides.{nat_tests};
 ghost use Rattle.grid.proofs.Flows.{ports_inside};
 
-use crate::ring::Ring;
+use arrayvec::ArrayVec;
+use grid::Flow;
+use std::array;
 use store::{Packet, Store};
 
-/// A ring for each flow: that of flow (i, j) stands at 16 × i + j. Every call but clear takes a fixed number of steps.
+/// The packets of each flow, at most two: those of flow (i, j) stand at 16 × i + j. Every call but clear takes a fixed
+/// number of steps.
 #[derive(Drop)]
 pub struct Rings {
-    rings: [Ring; 256],
+    rings: [ArrayVec<Packet, 2>; 256],
+    ghost short: { AtMostTwo rings },
 }
 
 impl Rings {
@@ -24,7 +27,7 @@ impl Rings {
         ensures { lists_in result.rings ≡ (λ _ _. []) }
     {
         Rings {
-            rings: [Ring::Empty; 256],
+            rings: array::from_fn(|_| ArrayVec::new()),
         }
     }
 }
@@ -40,7 +43,7 @@ impl Store for Rings {
 
     ghost most = { Prim.search rules };
 
-    ghost full_at_most = { λ s many i j. absurd (omega (arith, flow_sum_le (λ (a b : ℕ). length (lists_in s.rings a b)) 2 (λ a b. at_most_two (flow_in Empty s.rings a b)))) };
+    ghost full_at_most = { λ s many i j. absurd (omega (arith, flow_sum_le (λ (a b : ℕ). length (lists_in s.rings a b)) 2 (λ a b. at_most_two s.rings s.short a b))) };
 
     ghost room = { λ s few i j h.
         let ports = ports_inside i j h in
@@ -50,61 +53,57 @@ impl Store for Rings {
     ghost outside = { Prim.search rules };
 
     fn clear(&mut self) {
-        self.rings = [Ring::Empty; 256];
+        *self = Rings::new();
     }
 
     fn put(&mut self, input: usize, output: usize, packet: Packet) -> bool {
-        if input >= 16 || output >= 16 {
-            return false;
-        }
-        let Some(ring) = self.rings[16 * input + output].added(packet) else {
+        let Some(flow) = Flow::new(input, output) else {
             return false;
         };
-        self.rings[16 * input + output] = ring;
-        true
+        self.rings[flow.cell()].try_push(packet).is_ok()
     }
 
     fn look(&self, input: usize, output: usize, k: usize) -> Option<Packet> {
-        if input >= 16 || output >= 16 {
-            return None;
-        }
-        self.rings[16 * input + output].looked(k)
+        let flow = Flow::new(input, output)?;
+        self.rings[flow.cell()].get(k).copied()
     }
 
     fn count(&self, input: usize, output: usize) -> usize {
-        if input >= 16 || output >= 16 {
+        let Some(flow) = Flow::new(input, output) else {
             return 0;
-        }
-        self.rings[16 * input + output].count()
+        };
+        self.rings[flow.cell()].len()
     }
 
     fn note(&mut self, input: usize, output: usize, k: usize, tick: u64) -> bool {
-        if input >= 16 || output >= 16 {
-            return false;
-        }
-        let Some(ring) = self.rings[16 * input + output].noted(k, tick) else {
+        let Some(flow) = Flow::new(input, output) else {
             return false;
         };
-        self.rings[16 * input + output] = ring;
+        let rings = &mut self.rings[..];
+        let Some(packet) = rings[flow.cell()].get_mut(k) else {
+            return false;
+        };
+        *packet = packet.started_across(tick);
         true
     }
 
     fn remove(&mut self, input: usize, output: usize) -> bool {
-        if input >= 16 || output >= 16 {
-            return false;
-        }
-        let Some(ring) = self.rings[16 * input + output].removed() else {
+        let Some(flow) = Flow::new(input, output) else {
             return false;
         };
-        self.rings[16 * input + output] = ring;
-        true
+        self.rings[flow.cell()].pop_at(0).is_some()
     }
 
     fn is_full(&self, input: usize, output: usize) -> bool {
-        input >= 16 || output >= 16 || self.rings[16 * input + output].count() == 2
+        let Some(flow) = Flow::new(input, output) else {
+            return true;
+        };
+        self.rings[flow.cell()].is_full()
     }
 
-    fn stated_size(&self) -> usize {
+    fn stated_size(&self) -> usize
+        ensures { result ≡ 2 }
+    {
         2
     }
 }

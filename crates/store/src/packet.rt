@@ -5,7 +5,7 @@ ghost use Rattle.store.specs.Stored.{numbered, started_across};
 use timing::Stamp;
 
 /// A stored packet of a flow.
-#[derive(Clone, Copy)]
+#[derive(Clone, Copy, Default)]
 pub struct Packet {
     /// its number within the flow
     pub serial: u64,

@@ -1,7 +1,7 @@
 //! Exact virtual times of a fair-queueing switch, and the one chooser of first marks.
 #![tactic(auto)]
 
-ghost use Rattle.std.specs.Prelude.{◌<◌};
+ghost use Rattle.std.specs.Prelude.{◌≡◌, ◌<◌};
 
 mod flow;
 mod fluid;
@@ -20,4 +20,17 @@ pub struct Stamp {
     numerator: u32,
     weight: u32,
     ghost below: { numerator < weight },
+}
+
+// The time 0, of weight 1: what a place for a stamp holds before one is kept there.
+impl Default for Stamp {
+    ghost is_default = { λ s. (s.tick ≡ 0) × (s.numerator ≡ 0) × (s.weight ≡ 1) };
+
+    fn default() -> Stamp {
+        Stamp {
+            tick: 0,
+            numerator: 0,
+            weight: 1,
+        }
+    }
 }

@@ -1,4 +1,4 @@
-use Rattle.std.proofs.Common.{◌≡◌, ℕ, ◌+◌, ◌*◌, ◌%◌, length, sym, ap, ◌∙◌, arith, rules}
+use Rattle.std.proofs.Common.{◌≡◌, ℕ, ◌+◌, ◌*◌, ◌%◌, length, sym, ap, ◌∙◌, rules}
 use Rattle.grid.specs.Flows.{with_flow}
 use Rattle.grid.proofs.Flows.{ports_inside, flow_read, flows_set}
 use Rattle.store.specs.Counts.{counts}
