@@ -1,15 +1,15 @@
 -- What a pool holds, and what each call changes. Assumes nothing.
-use Rattle.std.proofs.Common.{◌≡◌, ℕ, suc, ◌+◌, ◌*◌, ◌<◌, List, [], ◌∷◌, ◌++◌, length, get_or, drop, set, is_some, Some, None, Option, sym, refl, ap, ◌∙◌, ⊎_elim, add-one, arith}
+use Rattle.std.proofs.Common.{◌≡◌, ℕ, suc, ◌+◌, ◌*◌, ◌<◌, List, [], ◌∷◌, ◌++◌, length, get_or, drop, set, is_some, Some, None, Option, sym, refl, ap, subst, ◌∙◌, ⊎_elim, add-one, arith}
 use mathlib.Core.Path.{fun_ext}
 use Rattle.std.specs.List.{slice_get}
 use Rattle.std.proofs.lemmas.Bool.{cases_eq, cond_both}
-use Rattle.std.proofs.lemmas.List.{get_or-set_same, get_or-set_other}
+use Rattle.std.proofs.lemmas.List.{get_or-set_same, get_or-set_other, length-map}
 use Rattle.store.specs.declared.packet.Packet.{Packet}
 use Rattle.grid.specs.Flows.{in_grid, with_flow}
 use Rattle.store.specs.Stored.{stored, noted, started_across}
 use Rattle.grid.proofs.Flows.{flow_cell, flows_change, ports_inside}
 use Rattle.grid.proofs.Sums.{flow_sum_same, flow_sum_cells, sum_more}
-use Rattle.pool.specs.Queues.{cell_in, Shifted}
+use Rattle.pool.specs.Queues.{first_cells, lengths, cell_in, Shifted}
 use Rattle.pool.specs.Held.{packets_below, packets_of, content, queue_packets, lists_in, Filled}
 use Rattle.pool.specs.declared.links.Links.{Links}
 use Rattle.pool.proofs.Rows.{below_none, below_same, below_push, below_length, below_nth, below_drop, below_noted}
@@ -17,11 +17,28 @@ use Rattle.pool.proofs.Fresh.{counts_fresh, count_other}
 use Rattle.pool.proofs.Shifts as shifts
 
 -- the cell at place k of queue q
-abbrev cell_of : Links → ℕ → ℕ → ℕ
-cell_of links q k = cell_in links.next links.first q k
+abbrev pub cell_of : Links → ℕ → ℕ → ℕ
+cell_of links q k = cell_in links.next (first_cells links.queues) q k
 
-abbrev count_of : Links → ℕ → ℕ
-count_of links q = get_or links.count q 0
+abbrev pub count_of : Links → ℕ → ℕ
+count_of links q = get_or (lengths links.queues) q 0
+
+long_of : (links : Links) → length (lengths links.queues) ≡ 257
+long_of links = length-map links.queues (λ q. q.count) ∙ links.long
+
+-- one pool's links became the others by a move of a cell
+abbrev pub ShiftedIn : (links links' : Links) (from to : ℕ) → Type 0
+ShiftedIn links links' = Shifted links.next (first_cells links.queues) (lengths links.queues) links'.next (first_cells links'.queues) (lengths links'.queues)
+
+pub shifted_to : (links links' : Links) (q r : ℕ) → q ≡ r → ShiftedIn links links' 256 q → ShiftedIn links links' 256 r
+shifted_to links links' q r e = subst (λ (to : ℕ). ShiftedIn links links' 256 to) e
+
+pub shifted_from : (links links' : Links) (q r : ℕ) → q ≡ r → ShiftedIn links links' q 256 → ShiftedIn links links' r 256
+shifted_from links links' q r e = subst (λ (from : ℕ). ShiftedIn links links' from 256) e
+
+-- a place in a queue, and the cell there
+pub place_in : (links : Links) (q r k cell : ℕ) → q ≡ r → (k < count_of links q) × (cell ≡ cell_of links q k) → (k < count_of links r) × (cell ≡ cell_of links r k)
+place_in links q r k cell e = subst (λ (p : ℕ). (k < count_of links p) × (cell ≡ cell_of links p k)) e
 
 module _ (packets : List (Option Packet)) (links : Links) (filled : Filled packets links) where
   pub queue_length : (q : ℕ) → q < 256 → length (queue_packets packets links q) ≡ count_of links q
@@ -60,7 +77,7 @@ module _ (packets : List (Option Packet)) (links : Links) (filled : Filled packe
       note_other : (q m : ℕ) → m < count_of links q → ((q ≡ 16 * i + j) → (m ≡ k) → ⊥) → content noted_packets links q m ≡ content packets links q m
       note_other q m lt ne =
           get_or-set_other packets (cell_of links (16 * i + j) k) (cell_of links q m) (Some (started_across t p)) None
-          (λ same. ne (links.queues (q, m) (16 * i + j, k) (lt, h, same)) (links.places (q, m) (16 * i + j, k) (lt, h, same)))
+          (λ same. ne (links.queued (q, m) (16 * i + j, k) (lt, h, same)) (links.places (q, m) (16 * i + j, k) (lt, h, same)))
 
       pub note_lists : lists_in noted_packets links ≡ with_flow (lists_in packets links) i j (noted k t (lists_in packets links i j))
       note_lists =
@@ -72,7 +89,7 @@ module _ (packets : List (Option Packet)) (links : Links) (filled : Filled packe
 
 module _ (packets : List (Option Packet)) (links links' : Links) (filled : Filled packets links) (i j : ℕ) (hi : i < 16) (hj : j < 16) where
   -- a free cell goes to flow (i, j) with the packet p
-  module _ (p : Packet) (some : 0 < count_of links 256) (s : Shifted links.next links.first links.count links'.next links'.first links'.count 256 (16 * i + j)) (in_grid : cell_of links 256 0 < length packets) where
+  module _ (p : Packet) (some : 0 < count_of links 256) (s : ShiftedIn links links' 256 (16 * i + j)) (in_grid : cell_of links 256 0 < length packets) where
     abbrev put_packets : List (Option Packet)
     put_packets = set packets (cell_of links 256 0) (Some p)
 
@@ -83,7 +100,7 @@ module _ (packets : List (Option Packet)) (links links' : Links) (filled : Fille
     put_other q k hq lt =
         ap (λ (c : ℕ). get_or put_packets c None) (s.kept q k (λ e. omega arith) lt)
         ∙ get_or-set_other packets (cell_of links 256 0) (cell_of links q k) (Some p) None
-        (λ same. let e : q ≡ 256 = links.queues (q, k) (256, 0) (lt, some, same) in omega arith)
+        (λ same. let e : q ≡ 256 = links.queued (q, k) (256, 0) (lt, some, same) in omega arith)
 
     put_here : content put_packets links' (16 * i + j) (count_of links (16 * i + j)) ≡ Some p
     put_here =
@@ -93,12 +110,12 @@ module _ (packets : List (Option Packet)) (links links' : Links) (filled : Fille
     put_count : (q : ℕ) → q < 256 → (q ≡ 16 * i + j → ⊥) → count_of links' q ≡ count_of links q
     put_count q hq ne =
         ap (λ (xs : List ℕ). get_or xs q 0) s.counts
-        ∙ shifts.count_other links.count 256 (16 * i + j) links.long (omega arith) (omega arith) apart_put some q (λ e. omega arith) ne
+        ∙ shifts.count_other (lengths links.queues) 256 (16 * i + j) (long_of links) (omega arith) (omega arith) apart_put some q (λ e. omega arith) ne
 
     put_count_here : count_of links' (16 * i + j) ≡ count_of links (16 * i + j) + 1
     put_count_here =
         ap (λ (xs : List ℕ). get_or xs (16 * i + j) 0) s.counts
-        ∙ shifts.count_to links.count 256 (16 * i + j) links.long (omega arith) (omega arith) apart_put some
+        ∙ shifts.count_to (lengths links.queues) 256 (16 * i + j) (long_of links) (omega arith) (omega arith) apart_put some
 
     pub put_lists : lists_in put_packets links' ≡ with_flow (lists_in packets links) i j (lists_in packets links i j ++ p ∷ [])
     put_lists =
@@ -112,8 +129,26 @@ module _ (packets : List (Option Packet)) (links links' : Links) (filled : Fille
         (λ q hq ne. ap (λ (n : ℕ). packets_below n (content put_packets links' q)) (put_count q hq ne)
         ∙ below_same (count_of links q) (content put_packets links' q) (content packets links q) (λ k lt. put_other q k hq lt))
 
+    pub put_filled : Filled put_packets links'
+    put_filled q k hs =
+        ⊎_elim
+        (λ (here : q ≡ 16 * i + j).
+        let longer = ap (count_of links') here in
+        ⊎_elim
+        (λ (end : k ≡ count_of links (16 * i + j)).
+        ap is_some (ap (λ c. content put_packets links' c k) here ∙ ap (content put_packets links' (16 * i + j)) end ∙ put_here))
+        (λ (inner : k ≡ count_of links (16 * i + j) → ⊥).
+        let same = ap (count_of links) here in
+        let lt : k < count_of links q = omega (arith, hs.1, put_count_here) in
+        ap is_some (put_other q k hs.0 lt) ∙ filled q k (hs.0, lt))
+        (cases_eq k (count_of links (16 * i + j))))
+        (λ (there : q ≡ 16 * i + j → ⊥).
+        let lt : k < count_of links q = omega (arith, hs.1, put_count q hs.0 there) in
+        ap is_some (put_other q k hs.0 lt) ∙ filled q k (hs.0, lt))
+        (cases_eq q (16 * i + j))
+
   -- the first cell of flow (i, j) becomes free
-  module _ (some : 0 < count_of links (16 * i + j)) (s : Shifted links.next links.first links.count links'.next links'.first links'.count (16 * i + j) 256) where
+  module _ (some : 0 < count_of links (16 * i + j)) (s : ShiftedIn links links' (16 * i + j) 256) where
     apart_remove : 16 * i + j ≡ 256 → ⊥
     apart_remove e = omega arith
 
@@ -127,19 +162,19 @@ module _ (packets : List (Option Packet)) (links links' : Links) (filled : Fille
     remove_count : (q : ℕ) → q < 256 → (q ≡ 16 * i + j → ⊥) → count_of links' q ≡ count_of links q
     remove_count q hq ne =
         ap (λ (xs : List ℕ). get_or xs q 0) s.counts
-        ∙ shifts.count_other links.count (16 * i + j) 256 links.long (omega arith) (omega arith) apart_remove some q ne (λ e. omega arith)
+        ∙ shifts.count_other (lengths links.queues) (16 * i + j) 256 (long_of links) (omega arith) (omega arith) apart_remove some q ne (λ e. omega arith)
 
     remove_count_here : suc (count_of links' (16 * i + j)) ≡ count_of links (16 * i + j)
     remove_count_here =
         let e = ap (λ (xs : List ℕ). get_or xs (16 * i + j) 0) s.counts in
-        let f = shifts.count_from links.count (16 * i + j) 256 links.long (omega arith) (omega arith) apart_remove some in
+        let f = shifts.count_from (lengths links.queues) (16 * i + j) 256 (long_of links) (omega arith) (omega arith) apart_remove some in
         omega arith
 
     -- a cell is free after
     pub remove_free : 0 < count_of links' 256
     remove_free =
         let e = ap (λ (xs : List ℕ). get_or xs 256 0) s.counts in
-        let f = shifts.count_to links.count (16 * i + j) 256 links.long (omega arith) (omega arith) apart_remove some in
+        let f = shifts.count_to (lengths links.queues) (16 * i + j) 256 (long_of links) (omega arith) (omega arith) apart_remove some in
         omega arith
 
     pub remove_lists : lists_in packets links' ≡ with_flow (lists_in packets links) i j (drop 1 (lists_in packets links i j))
@@ -166,7 +201,7 @@ module _ (packets : List (Option Packet)) (links links' : Links) (filled : Fille
         (cases_eq q (16 * i + j))
 
 -- a pool of which no cell is in use
-module _ (packets : List (Option Packet)) (links : Links) (counts : links.count ≡ counts_fresh) where
+module _ (packets : List (Option Packet)) (links : Links) (counts : lengths links.queues ≡ counts_fresh) where
   count_none : (q : ℕ) → q < 256 → count_of links q ≡ 0
   count_none q hq = ap (λ (xs : List ℕ). get_or xs q 0) counts ∙ count_other q (λ e. omega arith)
 

@@ -1,6 +1,17 @@
 -- Queues of numbered cells. Of each cell the next in its queue is known, and of each queue its first cell, its last
 -- cell and how many it has.
-use Rattle.std.specs.Prelude.{◌≡◌, ℕ, zero, suc, ◌+◌, ◌-◌, ◌<◌, List, ◌≢◌, slice_index, slice_set}
+use Rattle.std.specs.Prelude.{◌≡◌, ℕ, zero, suc, ◌+◌, ◌-◌, ◌<◌, List, ◌≢◌, map, slice_index, slice_set}
+use Rattle.pool.specs.declared.links.Queue.{Queue}
+
+-- of each queue its first cell, its last cell, and how many cells it has
+abbrev pub first_cells : List Queue → List ℕ
+first_cells = map (λ q. q.first)
+
+abbrev pub last_cells : List Queue → List ℕ
+last_cells = map (λ q. q.last)
+
+abbrev pub lengths : List Queue → List ℕ
+lengths = map (λ q. q.count)
 
 -- the cell k links after the cell c
 unfoldable pub walk : List ℕ → ℕ → ℕ → ℕ

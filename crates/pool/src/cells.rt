@@ -4,6 +4,7 @@ ghost use Rattle.pool.specs.Held.{lists_in, full_at_512, Filled};
 ghost use Rattle.std.proofs.Common.{rules};
 
 use crate::links::{FREE, Links};
+use grid::Flow;
 use store::{Packet, Store};
 
 /// 512 cells, each free or in the queue of one flow: the queue of flow (i, j) is 16 × i + j. A cell that a flow gives
@@ -50,45 +51,38 @@ impl Store for Pool {
     }
 
     fn put(&mut self, input: usize, output: usize, packet: Packet) -> bool {
-        if input >= 16 || output >= 16 {
+        let Some(flow) = Flow::new(input, output) else {
             return false;
-        }
-        if self.links.len(FREE) == 0 {
+        };
+        let Some(cell) = self.links.at(FREE, 0) else {
             return false;
-        }
-        let cell = self.links.at(FREE, 0);
+        };
         self.packets[cell] = Some(packet);
-        self.links.shift(FREE, 16 * input + output);
+        self.links.shift(FREE, flow.cell());
         true
     }
 
     fn look(&self, input: usize, output: usize, k: usize) -> Option<Packet> {
-        if input >= 16 || output >= 16 {
-            return None;
-        }
-        if k >= self.links.len(16 * input + output) {
-            return None;
-        }
-        self.packets[self.links.at(16 * input + output, k)]
+        let flow = Flow::new(input, output)?;
+        let cell = self.links.at(flow.cell(), k)?;
+        self.packets[cell]
     }
 
     fn count(&self, input: usize, output: usize) -> usize {
-        if input >= 16 || output >= 16 {
+        let Some(flow) = Flow::new(input, output) else {
             return 0;
-        }
-        self.links.len(16 * input + output)
+        };
+        self.links.len(flow.cell())
     }
 
     fn note(&mut self, input: usize, output: usize, k: usize, tick: u64) -> bool {
-        if input >= 16 || output >= 16 {
+        let Some(flow) = Flow::new(input, output) else {
             return false;
-        }
-        if k >= self.links.len(16 * input + output) {
+        };
+        let Some(cell) = self.links.at(flow.cell(), k) else {
             return false;
-        }
-        let cell = self.links.at(16 * input + output, k);
-        let held = self.packets[cell];
-        let Some(packet) = held else {
+        };
+        let Some(packet) = self.packets[cell] else {
             return false;
         };
         self.packets[cell] = Some(packet.started_across(tick));
@@ -96,21 +90,24 @@ impl Store for Pool {
     }
 
     fn remove(&mut self, input: usize, output: usize) -> bool {
-        if input >= 16 || output >= 16 {
+        let Some(flow) = Flow::new(input, output) else {
+            return false;
+        };
+        let queue = flow.cell();
+        if self.links.len(queue) == 0 {
             return false;
         }
-        if self.links.len(16 * input + output) == 0 {
-            return false;
-        }
-        self.links.shift(16 * input + output, FREE);
+        self.links.shift(queue, FREE);
         true
     }
 
     fn is_full(&self, input: usize, output: usize) -> bool {
-        input >= 16 || output >= 16 || self.links.len(FREE) == 0
+        Flow::new(input, output).is_none() || self.links.len(FREE) == 0
     }
 
-    fn stated_size(&self) -> usize {
+    fn stated_size(&self) -> usize
+        ensures { result ≡ 512 }
+    {
         512
     }
 }

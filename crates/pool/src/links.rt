@@ -1,23 +1,38 @@
 //! Queues of cells, each with a link to the next.
-ghost use Rattle.std.specs.Prelude.{◌≡◌, ◌<◌, length, replicate, ◌≢◌, slice_index, slice_set};
+ghost use Rattle.std.specs.Prelude.{◌≡◌, ◌<◌, length, replicate, ◌≢◌, IfSome, slice_index, slice_set};
+ghost use Rattle.std.specs.Option.{SomeIff};
 ghost use Rattle.grid.specs.Flows.{sum_below};
-ghost use Rattle.pool.specs.Queues.{cell_in, Cells, OneQueue, OnePlace, Ended, Shifted};
+ghost use Rattle.pool.specs.Queues.{first_cells, last_cells, lengths, cell_in, Cells, OneQueue, OnePlace, Ended, Shifted};
 
-// 512 cells in 257 queues: every cell stands in one queue.
+use std::array;
+
+// The first and the last cell of a queue, and how many cells it has.
+#[derive(Clone, Copy)]
+struct Queue {
+    first: usize,
+    last: usize,
+    count: usize,
+}
+
+const EMPTY: Queue = Queue {
+    first: 0,
+    last: 0,
+    count: 0,
+};
+
+// 512 cells in 257 queues: every cell stands in one queue. The links are cells' numbers, since no store allocates.
 #[derive(Drop)]
 pub(crate) struct Links {
-    next: [u16; 512],
-    first: [u16; 257],
-    last: [u16; 257],
-    count: [u16; 257],
-    ghost long: { length count ≡ 257 },
+    next: [usize; 512],
+    queues: [Queue; 257],
+    ghost long: { length queues ≡ 257 },
     ghost nexts: { Cells next },
-    ghost firsts: { Cells first },
-    ghost lasts: { Cells last },
-    ghost queues: { OneQueue next first count },
-    ghost places: { OnePlace next first count },
-    ghost ended: { Ended next first last count },
-    ghost total: { sum_below 257 (λ q. slice_index count q) ≡ 512 },
+    ghost firsts: { Cells (first_cells queues) },
+    ghost lasts: { Cells (last_cells queues) },
+    ghost queued: { OneQueue next (first_cells queues) (lengths queues) },
+    ghost places: { OnePlace next (first_cells queues) (lengths queues) },
+    ghost ended: { Ended next (first_cells queues) (last_cells queues) (lengths queues) },
+    ghost total: { sum_below 257 (λ q. slice_index (lengths queues) q) ≡ 512 },
 }
 
 // The last queue: that of the cells that hold nothing.
@@ -26,43 +41,43 @@ pub(crate) const FREE: usize = 256;
 impl Links {
     // All cells free, in order.
     pub(crate) fn new() -> Links
-        ensures { result.count ≡ slice_set (replicate 257 0) 256 512 }
+        ensures { lengths result.queues ≡ slice_set (replicate 257 0) 256 512 }
     {
-        let mut next = [0; 512];
-        for cell in 0..511u16 {
-            next[cell as usize] = cell + 1;
-        }
-        let mut last = [0; 257];
-        last[FREE] = 511;
-        let mut count = [0; 257];
-        count[FREE] = 512;
+        let mut queues = [EMPTY; 257];
+        queues[FREE] = Queue {
+            first: 0,
+            last: 511,
+            count: 512,
+        };
         Links {
-            next,
-            first: [0; 257],
-            last,
-            count,
+            next: array::from_fn(|cell| (cell + 1) % 512),
+            queues,
         }
     }
 
     // How many cells a queue has.
     pub(crate) fn len(&self, queue: usize) -> usize
         requires { queue < 257 }
-        ensures { result ≡ slice_index self.now.count queue }
+        ensures { result ≡ slice_index (lengths self.now.queues) queue }
     {
-        self.count[queue] as usize
+        self.queues[queue].count
     }
 
     // The k-th cell of a queue, found in k steps.
-    pub(crate) fn at(&self, queue: usize, k: usize) -> usize
+    pub(crate) fn at(&self, queue: usize, k: usize) -> Option<usize>
         requires { queue < 257 }
-        ensures is { result ≡ cell_in self.now.next self.now.first queue k }
-        ensures small { result < 512 }
+        ensures is { SomeIff result (k < slice_index (lengths self.now.queues) queue) (cell_in self.now.next (first_cells self.now.queues) queue k) }
+        ensures small { IfSome result (λ cell. cell < 512) }
     {
-        let mut cell = self.first[queue] as usize;
-        for _ in 0..k {
-            cell = self.next[cell] as usize;
+        let Queue { first, count, .. } = self.queues[queue];
+        if k >= count {
+            return None;
         }
-        cell
+        let mut cell = first;
+        for _ in 0..k {
+            cell = self.next[cell];
+        }
+        Some(cell)
     }
 
     // Moves the first cell of one queue to the end of another.
@@ -70,18 +85,27 @@ impl Links {
         requires source { from < 257 }
         requires target { to < 257 }
         requires other { from ≢ to }
-        requires some { 0 < slice_index self.old.count from }
-        ensures { Shifted self.old.next self.old.first self.old.count self.new.next self.new.first self.new.count from to }
+        requires some { 0 < slice_index (lengths self.old.queues) from }
+        ensures { Shifted self.old.next (first_cells self.old.queues) (lengths self.old.queues) self.new.next (first_cells self.new.queues) (lengths self.new.queues) from to }
     {
-        let cell = self.first[from];
-        self.first[from] = self.next[cell as usize];
-        if self.count[to] == 0 {
-            self.first[to] = cell;
+        let source = self.queues[from];
+        let cell = source.first;
+        self.queues[from] = Queue {
+            first: self.next[cell],
+            count: source.count - 1,
+            ..source
+        };
+        let target = self.queues[to];
+        let first = if target.count == 0 {
+            cell
         } else {
-            self.next[self.last[to] as usize] = cell;
-        }
-        self.last[to] = cell;
-        self.count[from] -= 1;
-        self.count[to] += 1;
+            self.next[target.last] = cell;
+            target.first
+        };
+        self.queues[to] = Queue {
+            first,
+            last: cell,
+            count: target.count + 1,
+        };
     }
 }

@@ -1,35 +1,60 @@
-use Rattle.std.proofs.Common.{sym, refl, arith}
-use Rattle.std.proofs.lemmas.Bool.{true≢false}
+use Rattle.std.proofs.Common.{◌≡◌, ℕ, ◌+◌, ◌*◌, ◌<◌, ap, arith, rules}
 use Rattle.std.proofs.lemmas.Bool.Decides.{nat_tests}
-use Rattle.pool.proofs.Pools.{list_length, stored_is, remove_lists, remove_filled, remove_free}
+use Rattle.grid.proofs.Flows.{ports_inside}
+use Rattle.pool.proofs.Pools.{count_of, shifted_from, list_length, stored_is, remove_lists, remove_filled, remove_free}
 use Rattle.pool.proofs.cells.PoolStore.remove.Goals as goal
 
-pub returns-then-len-eq0 : goal.returns-then-len-eq0
-returns-then-len-eq0 c =
+pub returns-then-len-eq0-clause-granted : goal.returns-then-len-eq0-clause-granted
+returns-then-len-eq0-clause-granted c =
     let pool = c.args.self.now in
-    let long = list_length pool.packets pool.links pool.filled c.args.input c.args.output (omega arith) (omega arith) in
-    record { granted = grind (arith, nat_tests); lists = refl; sign = λ bad. absurd (true≢false (sym bad)); size = refl; refused = λ _. refl }
+    let ports = ports_inside c.args.input c.args.output c.in-Some.ensures.0 in
+    let queue : c.cell-queue.result ≡ 16 * c.args.input + c.args.output = search rules in
+    let long = list_length pool.packets pool.links pool.filled c.args.input c.args.output ports.0 ports.1 in
+    let same = ap (count_of pool.links) queue in
+    grind (arith, nat_tests)
 
 pub invariant_of-self : goal.invariant_of-self
 invariant_of-self c =
     let pool = c.args.self.now in
-    record {
-      filled =
-          remove_filled pool.packets pool.links c.shift.new.self pool.filled c.args.input c.args.output (omega arith) (omega arith)
-          (omega arith) c.shift.ensures;
-    }
+    let after = c.shift.new.self in
+    let ports = ports_inside c.args.input c.args.output c.in-Some.ensures.0 in
+    let queue : c.cell-queue.result ≡ 16 * c.args.input + c.args.output = search rules in
+    let same = ap (count_of pool.links) queue in
+    let some : 0 < count_of pool.links (16 * c.args.input + c.args.output) = search rules in
+    let s = shifted_from pool.links after _ _ queue c.shift.ensures in
+    record { filled = remove_filled pool.packets pool.links after pool.filled c.args.input c.args.output ports.0 ports.1 some s }
 
-pub returns : goal.returns
-returns c =
+pub returns-clause-granted : goal.returns-clause-granted
+returns-clause-granted c =
     let pool = c.args.self.now in
-    let long = list_length pool.packets pool.links pool.filled c.args.input c.args.output (omega arith) (omega arith) in
-    let filled = remove_filled pool.packets pool.links c.shift.new.self pool.filled c.args.input c.args.output (omega arith) (omega arith) (omega arith) c.shift.ensures in
-    let all = stored_is pool.packets c.shift.new.self filled in
-    let free = remove_free pool.packets pool.links c.shift.new.self pool.filled c.args.input c.args.output (omega arith) (omega arith) (omega arith) c.shift.ensures in
-    record {
-      granted = grind (arith, nat_tests);
-      lists = remove_lists pool.packets pool.links c.shift.new.self pool.filled c.args.input c.args.output (omega arith) (omega arith) (omega arith) c.shift.ensures;
-      sign = λ _. grind (arith, nat_tests);
-      size = refl;
-      refused = λ bad. absurd (true≢false bad);
-    }
+    let ports = ports_inside c.args.input c.args.output c.in-Some.ensures.0 in
+    let queue : c.cell-queue.result ≡ 16 * c.args.input + c.args.output = search rules in
+    let long = list_length pool.packets pool.links pool.filled c.args.input c.args.output ports.0 ports.1 in
+    let same = ap (count_of pool.links) queue in
+    grind (arith, nat_tests)
+
+pub returns-clause-lists : goal.returns-clause-lists
+returns-clause-lists c =
+    let pool = c.args.self.now in
+    let after = c.shift.new.self in
+    let ports = ports_inside c.args.input c.args.output c.in-Some.ensures.0 in
+    let queue : c.cell-queue.result ≡ 16 * c.args.input + c.args.output = search rules in
+    let same = ap (count_of pool.links) queue in
+    let some : 0 < count_of pool.links (16 * c.args.input + c.args.output) = search rules in
+    let s = shifted_from pool.links after _ _ queue c.shift.ensures in
+    remove_lists pool.packets pool.links after pool.filled c.args.input c.args.output ports.0 ports.1 some s
+
+pub returns-clause-sign : goal.returns-clause-sign
+returns-clause-sign c =
+    let pool = c.args.self.now in
+    let after = c.shift.new.self in
+    let ports = ports_inside c.args.input c.args.output c.in-Some.ensures.0 in
+    let queue : c.cell-queue.result ≡ 16 * c.args.input + c.args.output = search rules in
+    let same = ap (count_of pool.links) queue in
+    let some : 0 < count_of pool.links (16 * c.args.input + c.args.output) = search rules in
+    let s = shifted_from pool.links after _ _ queue c.shift.ensures in
+    let filled = remove_filled pool.packets pool.links after pool.filled c.args.input c.args.output ports.0 ports.1 some s in
+    let all = stored_is pool.packets after filled in
+    let free = remove_free pool.packets pool.links after pool.filled c.args.input c.args.output ports.0 ports.1 some s in
+    let inside = c.in-Some.ensures.0 in
+    λ _. grind (arith, nat_tests)

@@ -1,34 +1,22 @@
-use Rattle.std.proofs.Common.{ℕ, ◌+◌, ◌<◌, ◌≢◌, length, replicate, refl, ◌∙◌, arith, below_more}
-use Rattle.std.proofs.lemmas.List.{get_or-set_same, get_or-set_other, length-set}
+use Rattle.std.proofs.Common.{◌≡◌, ℕ, ◌+◌, ◌<◌, ◌≤◌, get_or, replicate, refl, ⊎_elim, arith, rules}
+use Rattle.std.proofs.lemmas.Bool.{cases_lt}
+use Rattle.std.proofs.lemmas.List.{get_or_past}
+use Rattle.pool.specs.Queues.{Cells}
 use Rattle.pool.proofs.Shifts.{cells_set}
 use Rattle.pool.proofs.Fresh.{zero_cells, fresh_queues, fresh_places, fresh_ended, total_fresh}
 use Rattle.pool.proofs.links.Links.new.Goals as goal
 
-pub loop-cell-init : goal.loop-cell-init
-loop-cell-init c = (refl, zero_cells 512, λ k h. absurd (omega arith))
-
-pub loop-cell-preserved : goal.loop-cell-preserved
-loop-cell-preserved c =
-    let next = c.loop-cell.next in
-    let cell = c.loop-cell.cell in
-    let inside : cell < length next = omega arith in (
-      length-set next cell (cell + 1) ∙ c.loop-cell.invariant.0,
-      cells_set next cell (cell + 1) c.loop-cell.invariant.1 (omega arith) inside,
-      below_more _ cell
-          (λ k h. let ne : k ≢ cell = omega arith in get_or-set_other next cell k (cell + 1) 0 ne ∙ c.loop-cell.invariant.2 k h)
-          (get_or-set_same next cell (cell + 1) 0 inside),
-    )
-
 pub invariant_of-result : goal.invariant_of-result
 invariant_of-result c =
-    let next = c.loop-cell.next in
-    let linked = λ (k : ℕ) (h : k < 511). c.loop-cell.invariant.2 k (omega arith) in
+    let next = c.from_fn.result in
+    let made = c.from_fn.ensures.items in
+    let linked : (k : ℕ) → k < 511 → get_or next k 0 ≡ k + 1 = λ k h. let here = made.at k 0 (omega arith) in search rules in
     record {
       long = refl;
-      nexts = c.loop-cell.invariant.1;
+      nexts = λ k. ⊎_elim (λ (h : k < 512). let here = made.at k 0 h in search rules) (λ (h : 512 ≤ k). omega (arith, get_or_past next k 0 (omega (arith, made.long)))) (cases_lt k 512);
       firsts = zero_cells 257;
       lasts = cells_set (replicate 257 0) 256 511 (zero_cells 257) (omega arith) (omega arith);
-      queues = fresh_queues next linked;
+      queued = fresh_queues next linked;
       places = fresh_places next linked;
       ended = fresh_ended next linked;
       total = total_fresh;

@@ -1,86 +1,72 @@
-use Rattle.std.proofs.Common.{◌≡◌, ℕ, ◌+◌, ◌-◌, List, length, get_or, set, ap, ◌∙◌, inl, inr, arith, MutBor, rules}
-use Rattle.std.proofs.lemmas.List.{length-set}
+use Rattle.std.proofs.Common.{◌≡◌, ℕ, ◌+◌, ◌<◌, List, length, get_or, ap, ◌∙◌, inl, inr, arith, MutBor, rules}
 use Rattle.grid.proofs.Sums.{sum_at_least}
-use Rattle.grid.specs.Flows.{sum_below}
-use Rattle.pool.specs.Queues.{Cells, OneQueue, OnePlace, Ended, counts_after}
+use Rattle.pool.specs.Queues.{first_cells, last_cells, lengths}
 use Rattle.pool.specs.declared.links.Links.{Links}
-use Rattle.pool.proofs.Shifts as shifts
-use Rattle.pool.proofs.Shifts.{Wrote, After, count_before}
+use Rattle.pool.specs.declared.links.Queue.{Queue}
+use Rattle.pool.proofs.Shifts.{After}
+use Rattle.pool.proofs.Parts.{first_at, target_count, target_last, joined, Links_wrote, joined_long, joined_total, joined_after}
 use Rattle.pool.proofs.links.Links.shift.Goals as goal
-use Rattle.pool.proofs.links.Links.shift.Goals.{then-self-to-eq0, else-self-to-eq0, Joined-self-to-eq0}
+use Rattle.pool.proofs.links.Links.shift.Goals.{then-target-eq0, else-target-eq0, Joined-target-eq0}
 
 -- the links with their lists, where the two ways meet
 abbrev Parts : Type 0
-Parts = MutBor Links × (List ℕ × (List ℕ × (List ℕ × (List ℕ × Unit {0}))))
+Parts = MutBor Links × (List ℕ × (List Queue × Unit {0}))
 
-wrote : (c : goal.Joined-self-to-eq0) → Wrote c.args.self.now.next c.args.self.now.first c.args.self.now.last c.args.self.now.count c.if-self-to-eq0.self.1.0 c.if-self-to-eq0.self.1.1.0 c.args.from c.args.to
+wrote : (c : goal.Joined-target-eq0) → Links_wrote c.args.self.now.queues c.args.self.now.next c.args.from c.args.to c.if-target-eq0.self.1.0 c.if-target-eq0.first
 wrote c =
-    elim c.if-self-to-eq0.branch [
-      | then-self-to-eq0 w ↦ inl (w.if-self-to-eq0.true, ap (λ (t : Parts). t.1.0) w.self-is, ap (λ (t : Parts). t.1.1.0) w.self-is)
-      | else-self-to-eq0 w ↦ inr (omega (arith, w.if-self-to-eq0.false), ap (λ (t : Parts). t.1.0) w.self-is, ap (λ (t : Parts). t.1.1.0) w.self-is)
+    elim c.if-target-eq0.branch [
+      | then-target-eq0 w ↦ inl (w.if-target-eq0.true, ap (λ (t : Parts). t.1.0) w.self-is, w.first-is)
+      | else-target-eq0 w ↦ inr (omega (arith, w.if-target-eq0.false), ap (λ (t : Parts). t.1.0) w.self-is, w.first-is)
     ]
 
--- what the move leaves
-module _ (c : goal.Joined-self-to-eq0) where
-  abbrev links : Links
-  links = c.args.self.now
+pub bounds-self-cell : goal.bounds-self-cell
+bounds-self-cell c = omega (arith, first_at c.args.self.now.queues c.args.from, c.args.self.now.firsts c.args.from)
 
-  abbrev from : ℕ
-  from = c.args.from
+pub offset_bounds-self-cell : goal.offset_bounds-self-cell
+offset_bounds-self-cell c = let inside = bounds-self-cell c in search rules
 
-  abbrev to : ℕ
-  to = c.args.to
+pub bounds-self-target : goal.bounds-self-target
+bounds-self-target c =
+    let links = c.args.self.now in
+    omega (arith, target_last links.queues links.next c.args.from c.args.to c.requires.other, links.lasts c.args.to)
 
-  abbrev next' : List ℕ
-  next' = c.if-self-to-eq0.self.1.0
-
-  abbrev first' : List ℕ
-  first' = c.if-self-to-eq0.self.1.1.0
-
-  abbrev last' : List ℕ
-  last' = set links.last to (get_or links.first from 0)
-
-  abbrev count' : List ℕ
-  count' = set (set links.count from (get_or links.count from 0 - 1)) to (get_or (set links.count from (get_or links.count from 0 - 1)) to 0 + 1)
-
-  counts_are : count' ≡ counts_after links.count from to
-  counts_are =
-      shifts.counts_are links.count from to links.long c.requires.source c.requires.target c.requires.other c.requires.some
-
-  after : After links.next links.first links.last links.count next' first' last' (counts_after links.count from to) from to
-  after =
-      shifts.after links.count from to links.long c.requires.source c.requires.target c.requires.other c.requires.some
-      links.next links.first links.last (search rules) (search rules) (search rules) next' first'
-      links.nexts links.firsts links.lasts (wrote c) links.queues links.places links.ended
-
-  ghosts : (length count' ≡ 257) × Cells next' × Cells first' × Cells last' × OneQueue next' first' count' × OnePlace next' first' count' × Ended next' first' last' count' × (sum_below 257 (λ q. get_or count' q 0) ≡ 512)
-  ghosts =
-      let total = shifts.total_kept links.count from to links.long c.requires.source c.requires.target c.requires.other c.requires.some in
-      let mid = length-set links.count from (get_or links.count from 0 - 1) in
-      let long = length-set (set links.count from (get_or links.count from 0 - 1)) to (get_or links.count to 0 + 1) in
-      rw counts_are
-      (long ∙ mid ∙ links.long, after.nexts, after.firsts, after.lasts, after.queues, after.places, after.ended, total ∙ links.total)
+pub offset_bounds-self-target : goal.offset_bounds-self-target
+offset_bounds-self-target c =
+    let links = c.args.self.now in
+    let last = target_last links.queues links.next c.args.from c.args.to c.requires.other in
+    let small = links.lasts c.args.to in
+    search rules
 
 pub overflow_add-self : goal.overflow_add-self
 overflow_add-self c =
-    let most = sum_at_least 257 c.args.to (λ q. get_or c.args.self.now.count q 0) c.requires.target in
-    let same = count_before c.args.self.now.count c.args.from c.args.to c.requires.other in
-    let total = c.args.self.now.total in
+    let links = c.args.self.now in
+    let most = sum_at_least 257 c.args.to (λ q. get_or (lengths links.queues) q 0) c.requires.target in
+    let same = target_count links.queues links.next c.args.from c.args.to c.requires.other in
+    let total = links.total in
     search rules
+
+after : (c : goal.Joined-target-eq0) → After c.args.self.now.next (first_cells c.args.self.now.queues) (last_cells c.args.self.now.queues) (lengths c.args.self.now.queues) c.if-target-eq0.self.1.0 (first_cells (joined c.args.self.now.queues c.args.self.now.next c.args.from c.args.to c.if-target-eq0.first)) (last_cells (joined c.args.self.now.queues c.args.self.now.next c.args.from c.args.to c.if-target-eq0.first)) (lengths (joined c.args.self.now.queues c.args.self.now.next c.args.from c.args.to c.if-target-eq0.first)) c.args.from c.args.to
+after c =
+    let links = c.args.self.now in
+    joined_after links.queues links.next c.args.from c.args.to c.requires.other c.requires.source c.requires.target c.requires.some links.long
+    c.if-target-eq0.self.1.0 c.if-target-eq0.first (search rules) links.nexts links.firsts links.lasts (wrote c) links.queued links.places links.ended
 
 pub invariant_of-self : goal.invariant_of-self
 invariant_of-self c =
-    let g = ghosts (goal.at.invariant_of-self c).Joined-self-to-eq0 in
+    let links = c.args.self.now in
+    let j = (goal.at.invariant_of-self c).Joined-target-eq0 in
+    let f = j.if-target-eq0.first in
+    let a = after j in
     record {
-      long = g.0;
-      nexts = g.1;
-      firsts = g.2;
-      lasts = g.3;
-      queues = g.4;
-      places = g.5;
-      ended = g.6;
-      total = g.7;
+      long = joined_long links.queues links.next c.args.from c.args.to c.requires.other c.requires.source c.requires.target c.requires.some links.long f;
+      nexts = a.nexts;
+      firsts = a.firsts;
+      lasts = a.lasts;
+      queued = a.queues;
+      places = a.places;
+      ended = a.ended;
+      total = joined_total links.queues links.next c.args.from c.args.to c.requires.other c.requires.source c.requires.target c.requires.some links.long f ∙ links.total;
     }
 
 pub returns : goal.returns
-returns c = let j = (goal.at.returns c).Joined-self-to-eq0 in rw (counts_are j) (after j).shifted
+returns c = (after (goal.at.returns c).Joined-target-eq0).shifted
