@@ -8,4 +8,4 @@ returns-clause-lists c =
     let i = c.args.input in
     let j = c.args.output in
     let at = ring_at rings i j c.cell.result c.in-Some.ensures.0 (search rules) (search rules) c.index-self-cell.result in
-    ring_set_if rings i j c.cell.result c.in-Some.ensures.0 (search rules) (search rules) c.try_push.new.self c.is_ok.result _ (search rules)
+    ring_set_if rings i j c.cell.result c.in-Some.ensures.0 (search rules) (search rules) _ _ _ (search rules)
