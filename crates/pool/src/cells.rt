@@ -10,6 +10,8 @@ use store::{Packet, Store};
 /// 512 cells, each free or in the queue of one flow: the queue of flow (i, j) is 16 × i + j. A cell that a flow gives
 /// back is free again. To put, to remove, to count and to ask for a sign take a fixed number of steps; to look at the
 /// k-th packet of a flow and to note its start take k steps along the flow's own queue; to clear takes 512.
+// The packets stand apart from the links: what the links keep is then of numbers alone, and no write of a packet
+// touches it.
 #[derive(Drop)]
 pub struct Pool {
     packets: [Option<Packet>; 512],

@@ -20,7 +20,7 @@ const EMPTY: Queue = Queue {
     count: 0,
 };
 
-// 512 cells in 257 queues: every cell stands in one queue. The links are cells' numbers, since no store allocates.
+// 512 cells in 257 queues: every cell stands in one queue. The links are numbers of cells, since no store allocates.
 #[derive(Drop)]
 pub(crate) struct Links {
     next: [usize; 512],
@@ -73,6 +73,7 @@ impl Links {
         if k >= count {
             return None;
         }
+        // a loop, not a fold: its invariant says that each cell on the way is one of the 512
         let mut cell = first;
         for _ in 0..k {
             cell = self.next[cell];

@@ -1,7 +1,7 @@
 use Rattle.std.proofs.Common.{◌≡◌, ℕ, ◌+◌, ◌*◌, set, Some, ap, ◌∙◌, arith, rules}
 use Rattle.std.proofs.lemmas.Bool.Decides.{nat_tests}
 use Rattle.grid.proofs.Flows.{ports_inside}
-use Rattle.pool.specs.Held.{lists_in, Filled}
+use Rattle.pool.specs.Held.{lists_in}
 use Rattle.pool.proofs.Pools.{stored_is, shifted_to, put_lists, put_filled}
 use Rattle.pool.proofs.cells.PoolStore.put.Goals as goal
 

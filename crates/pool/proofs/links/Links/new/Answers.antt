@@ -1,7 +1,6 @@
 use Rattle.std.proofs.Common.{◌≡◌, ℕ, ◌+◌, ◌<◌, ◌≤◌, get_or, replicate, refl, ⊎_elim, arith, rules}
 use Rattle.std.proofs.lemmas.Bool.{cases_lt}
 use Rattle.std.proofs.lemmas.List.{get_or_past}
-use Rattle.pool.specs.Queues.{Cells}
 use Rattle.pool.proofs.Shifts.{cells_set}
 use Rattle.pool.proofs.Fresh.{zero_cells, fresh_queues, fresh_places, fresh_ended, total_fresh}
 use Rattle.pool.proofs.links.Links.new.Goals as goal

@@ -1,4 +1,4 @@
-use Rattle.std.proofs.Common.{◌≡◌, ℕ, ◌+◌, ◌<◌, List, length, get_or, ap, ◌∙◌, inl, inr, arith, MutBor, rules}
+use Rattle.std.proofs.Common.{ℕ, List, get_or, ap, ◌∙◌, inl, inr, arith, MutBor, rules}
 use Rattle.grid.proofs.Sums.{sum_at_least}
 use Rattle.pool.specs.Queues.{first_cells, last_cells, lengths}
 use Rattle.pool.specs.declared.links.Links.{Links}
