@@ -79,6 +79,7 @@ impl Store for Rings {
         let Some(flow) = Flow::new(input, output) else {
             return false;
         };
+        // as a slice: of a struct with a ghost field an element by itself is not lent
         let rings = &mut self.rings[..];
         let Some(packet) = rings[flow.cell()].get_mut(k) else {
             return false;
