@@ -98,7 +98,3 @@ ask_carries M st i j r e =
 pub weight_read : {X : Type 0} (b : Bool) (v w : ℕ) (f : ℕ → X) (x : X) → cond b (Ok v) (Err fault.Port) ≡ Ok w → x ≡ f w → Ok x ≡ unless (cond b None (Some fault.Port)) (f v)
 weight_read true v w f x e h = let same : v ≡ w = cc in ap Ok (h ∙ ap f (sym same))
 weight_read false v w f x e h = absurd (cc)
-
-pub port_refused : (b : Bool) (v : ℕ) (e : PortFault) → cond b (Ok v) (Err fault.Port) ≡ Err e → b ≡ false
-port_refused true v e h = absurd (cc)
-port_refused false v e h = refl

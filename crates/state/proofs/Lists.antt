@@ -1,5 +1,5 @@
 -- Lists: an element after a front is dropped or filled in, and lists made from a function of the index.
-use Rattle.std.proofs.Common.{◌≡◌, ℕ, zero, suc, ◌+◌, ◌<◌, ◌≤◌, Bool, true, false, cond, List, [], ◌∷◌, ◌++◌, map, length, get_or, drop, replicate, set, None, Option, sym, refl, ap, ◌∙◌, ⊎_elim, zero-add, arith, length-set, below_more}
+use Rattle.std.proofs.Common.{◌≡◌, ℕ, zero, suc, ◌+◌, ◌<◌, ◌≤◌, Bool, true, false, cond, List, [], ◌∷◌, ◌++◌, map, length, get_or, drop, replicate, set, None, Option, sym, refl, ap, ◌∙◌, ⊎_elim, zero-add, arith}
 use mathlib.Core.Path.{fun_ext}
 use Rattle.std.specs.List.{slice_get, range_with_len, flat_map}
 use Rattle.std.proofs.lemmas.Bool.{cases_lt, cases_eq, eq-eqb, ne_eqb}
@@ -26,16 +26,6 @@ pub drop_one : (n : ℕ) (us : List ℕ) → drop n (drop 1 us) ≡ drop (suc n)
 drop_one zero [] = refl
 drop_one (suc n) [] = refl
 drop_one n (u ∷ us) = refl
-
--- a row that is filled from its start
-pub fill_more : {X : Type 0} (f : ℕ → X) (xs : List X) (n k : ℕ) (d x : X) → (length xs ≡ n) × ((j : ℕ) → j < k → get_or xs j d ≡ f j) → k < n → x ≡ f k →
-    (length (set xs k x) ≡ n) × ((j : ℕ) → j < k + 1 → get_or (set xs k x) j d ≡ f j)
-fill_more f xs n k d x (long, h) lt e = (
-  length-set xs k x ∙ long,
-  below_more _ _
-      (λ j l. get_or-set_other xs k j x d (λ z. omega (arith, z, l)) ∙ h j l)
-      (get_or-set_same xs k x d (omega arith) ∙ e),
-)
 
 -- a row of nothing
 pub row_none : {X : Type 0} (g : ℕ → Option X) (n : ℕ) → ((k : ℕ) → k < n → g k ≡ None) → (k : ℕ) → get_or (map g (range_with_len 0 n)) k None ≡ None

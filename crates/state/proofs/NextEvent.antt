@@ -30,9 +30,6 @@ pub outputs_more : (st : State) (n best : ℕ) → outputs_next st (n + 1) best 
 unfolding outputs_next
 outputs_more st n best = ap (λ m. outputs_next st m best) (add-one n)
 
-pub sooner_same : (best best' floor floor' : ℕ) (o o' : Option ℕ) → best ≡ best' → floor ≡ floor' → o ≡ o' → sooner_of best floor o ≡ sooner_of best' floor' o'
-sooner_same best best' floor floor' o o' a b c = λ k. sooner_of (a k) (b k) (c k)
-
 -- it is at most each of those from which it is made
 sooner_le : (best floor : ℕ) (o : Option ℕ) → sooner_of best floor o ≤ best
 sooner_le best floor None = omega arith

@@ -1,6 +1,6 @@
 -- A report is right in every run: a flow's bytes accepted are those that have left and those stored.
 use Rattle.std.proofs.Common.{◌≡◌, ℕ, zero, suc, ◌+◌, true, false, cond, eqb, List, [], ◌∷◌, take, drop, Ok, Err, Result, sym, refl, ap, ◌∙◌, subst, ⊎_elim, arith}
-use Rattle.std.proofs.lemmas.Bool.{cases_Bool, eq-eqb, ne_eqb}
+use Rattle.std.proofs.lemmas.Bool.{cases_Bool, eq-eqb}
 use Rattle.std.specs.List.{slice_get}
 use Rattle.plan.specs.Weights.{weight_of, has_flow}
 use Rattle.store.specs.declared.packet.Packet.{Packet}
@@ -45,13 +45,6 @@ report_of l inside = cond (eqb l.accepted (l.departed + inside)) (Ok record { pe
 
 pub report_even : (l : Ledger) (inside : ℕ) → l.accepted ≡ l.departed + inside → report_of l inside ≡ Ok record { peak = l.peak; accepted = l.accepted; departed = l.departed }
 report_even l inside e = rw (eq-eqb l.accepted (l.departed + inside) e)
-
-pub report_uneven : (l : Ledger) (inside : ℕ) → (l.accepted ≡ l.departed + inside → ⊥) → report_of l inside ≡ Err fault.Unbalanced
-report_uneven l inside e = rw (ne_eqb l.accepted (l.departed + inside) e)
-
-pub report_is : (st : State) (i j : ℕ) (l : Ledger) (inside : ℕ) (r : Result Report ReportFault) → has_flow st.plan i j ≡ true → l ≡ st.ledgers i j → inside ≡ lengths (st.lists i j) → report_of l inside ≡ r → r ≡ report_answer st i j
-report_is st i j l inside r here le ie e =
-    sym e ∙ (λ k. report_of (le k) (ie k)) ∙ ap (λ v. cond v (report_of (st.ledgers i j) (lengths (st.lists i j))) (Err fault.Port)) (sym here)
 
 -- in a run a flow is balanced, and the report is right
 right_flow : (st : State) (i j : ℕ) → has_flow st.plan i j ≡ true → Reports st i j (report_of (st.ledgers i j) (lengths (st.lists i j)))

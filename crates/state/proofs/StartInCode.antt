@@ -1,5 +1,5 @@
 -- A start across as the code makes it: its input is below 16, and the state after it is the one stated.
-use Rattle.std.proofs.Common.{◌≡◌, ℕ, ◌+◌, ◌-◌, ◌%◌, ◌^◌, ◌<◌, max, Bool, true, false, cond, ltb, List, length, Some, sym, ap, ◌∙◌}
+use Rattle.std.proofs.Common.{◌≡◌, ℕ, ◌+◌, ◌-◌, ◌%◌, ◌^◌, ◌<◌, max, Bool, cond, ltb, List, length, Some, sym, ap, ◌∙◌}
 use Rattle.std.specs.List.{slice_get}
 use Rattle.std.proofs.lemmas.Option.{slice_get_within}
 use Rattle.std.proofs.lemmas.Bool.{lt-ltb}
@@ -8,19 +8,8 @@ use Rattle.store.specs.Stored.{noted}
 use Rattle.store.specs.declared.packet.Packet.{Packet}
 use Rattle.state.specs.declared.line.Ledger.{Ledger}
 use Rattle.state.specs.State.{State}
-use Rattle.state.specs.Crosses.{next_across, crossed_with, starting, choice_across, question_across}
-use Rattle.state.specs.Lines.{with_line, busy_at, Line, busy}
-use Rattle.law.specs.Rules.{Rule, asked}
-use Rattle.tie.specs.PicksTied.{PicksTied}
-use Rattle.tie.specs.declared.question.Question.{Question}
-
-asked_below : (rule : Rule) → PicksTied rule → (code : ℕ) (busy : Bool) (question : Question) (k : ℕ) → asked rule code busy question ≡ Some k → k < 16
-asked_below rule picks-tied code true question k e = absurd (cc)
-asked_below rule picks-tied code false question k e = (picks-tied.picks code question k e).0
-
--- what an input chooses is a port that the switch may have
-pub choice_below : {K : Type 0} (answer : K → Rule) (told : K → ℕ → ℕ → K → Type 0) → ((kept : K) → PicksTied (answer kept)) → (st : State) (kept : K) (i k : ℕ) → choice_across answer told st kept i ≡ Some k → k < 16
-choice_below answer told picks-tied st kept i k e = asked_below (answer kept) (picks-tied kept) i (busy_at st.clock (st.crossing i)) (question_across st i) k e
+use Rattle.state.specs.Crosses.{next_across, crossed_with, starting}
+use Rattle.state.specs.Lines.{with_line, Line, busy}
 
 -- the state after a start, from the parts that the code has at hand
 pub crossed_is : (st : State) (i j : ℕ) (l : Ledger) (p : Packet) (peak : ℕ) (ok : Bool) (lines : ℕ → Line ℕ) (ledgers : ℕ → ℕ → Ledger) (lists : ℕ → ℕ → List Packet) (counts : ℕ → ℕ → ℕ) →
