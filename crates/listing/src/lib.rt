@@ -10,14 +10,16 @@
 //!     E  last tick, departed bytes
 //!     R  layer, number, place: a refusal
 //!
-//! Each function answers the length of its line. Where the buffer is shorter, it refuses and leaves the buffer as it was.
+//! Each kind of line is a type, and `write` of the trait `Line` answers the length of the line. Where the buffer is shorter,
+//! it refuses and leaves the buffer as it was.
 #![tactic(auto)]
 
-ghost use Rattle.std.specs.Prelude.{◌≡◌, ◌+◌, ◌<◌, ◌≤◌, true, [], ◌∷◌, length, is_ok, decimal};
-ghost use Rattle.listing.specs.Line.{departure_text, end_text, fault_number, field, full_text, line_of, peak_text, put, refusal_text, Writes};
-ghost use Rattle.std.specs.List.{flat_map};
+ghost use Rattle.std.specs.Prelude.{◌≡◌, ℕ, ◌<◌, ◌≤◌, List, true, length, is_ok};
+ghost use Rattle.listing.specs.Line.{departure_text, end_text, fault_number, full_text, line_of, peak_text, refusal_text, Writes};
 
+use arrayvec::ArrayString;
 pub use departure::Departure;
+use itoa::Buffer;
 
 /// No line is longer: a letter, nine fields of a space and at most twenty digits, a line feed.
 pub const LONGEST_LINE: usize = 191;
@@ -26,7 +28,7 @@ pub const LONGEST_LINE: usize = 191;
 #[derive(Clone, Copy, PartialEq, Eq, Debug)]
 pub enum LineFault {
     /// The buffer is shorter than the line.
-    ShortBuffer,
+    ShortBuffer = 21,
 }
 
 impl LineFault {
@@ -34,134 +36,132 @@ impl LineFault {
     pub fn number(&self) -> u8
         ensures { result ≡ fault_number self.now }
     {
-        match self {
-            LineFault::ShortBuffer => 21,
-        }
+        *self as u8
     }
 }
 
-/// Writes the `D` line of a departure.
-pub fn departure_line(out: &mut [u8], d: &Departure) -> Result<usize, LineFault>
-    ensures written { Writes (departure_text d.now) out.old out.new result }
-    ensures room { LONGEST_LINE ≤ length out.old → is_ok result ≡ true }
-{
-    let fields = [
-        d.tick,
-        d.input as u64,
-        d.output as u64,
-        d.serial,
-        d.arrival,
-        d.crossing,
-        d.sending,
-        d.whole,
-        d.numerator,
-    ];
-    write_line(out, b'D', &fields)
+/// A line of the listing.
+pub trait Line {
+    ghost text: { Self → List ℕ };
+
+    /// Writes the line to the front of a buffer that has room for all of it.
+    fn write(&self, out: &mut [u8]) -> Result<usize, LineFault>
+        ensures written { Writes (text self.now) out.old out.new result }
+        ensures room { LONGEST_LINE ≤ length out.old → is_ok result ≡ true };
 }
 
-/// Writes the `N` line of an arrival of `len` bytes that found the store full.
-pub fn full_line(
-    out: &mut [u8],
-    tick: u64,
-    input: u64,
-    output: u64,
-    len: u64,
-) -> Result<usize, LineFault>
-    ensures written { Writes (full_text tick input output len) out.old out.new result }
-    ensures room { LONGEST_LINE ≤ length out.old → is_ok result ≡ true }
-{
-    write_line(out, b'N', &[tick, input, output, len])
+/// The `D` line.
+impl Line for Departure {
+    ghost text = { departure_text };
+
+    fn write(&self, out: &mut [u8]) -> Result<usize, LineFault> {
+        let fields = [
+            self.tick,
+            self.input as u64,
+            self.output as u64,
+            self.serial,
+            self.arrival,
+            self.crossing,
+            self.sending,
+            self.whole,
+            self.numerator,
+        ];
+        write_line(out, 'D', &fields)
+    }
 }
 
-/// Writes the `X` line of a crosspoint that held at most `peak` bytes.
-pub fn peak_line(out: &mut [u8], input: u64, output: u64, peak: u64) -> Result<usize, LineFault>
-    ensures written { Writes (peak_text input output peak) out.old out.new result }
-    ensures room { LONGEST_LINE ≤ length out.old → is_ok result ≡ true }
-{
-    write_line(out, b'X', &[input, output, peak])
+/// The `N` line: an arrival of `len` bytes found the store full.
+#[derive(Clone, Copy, PartialEq, Eq, Debug)]
+pub struct Full {
+    pub tick: u64,
+    pub input: u64,
+    pub output: u64,
+    pub len: u64,
 }
 
-/// Writes the `E` line of a run: its last tick, and how many bytes departed.
-pub fn end_line(out: &mut [u8], tick: u64, bytes: u64) -> Result<usize, LineFault>
-    ensures written { Writes (end_text tick bytes) out.old out.new result }
-    ensures room { LONGEST_LINE ≤ length out.old → is_ok result ≡ true }
-{
-    write_line(out, b'E', &[tick, bytes])
+impl Line for Full {
+    ghost text = { λ l. full_text l.tick l.input l.output l.len };
+
+    fn write(&self, out: &mut [u8]) -> Result<usize, LineFault> {
+        write_line(out, 'N', &[self.tick, self.input, self.output, self.len])
+    }
 }
 
-/// Writes the `R` line of a refusal: the layer that refused, the fault's number, and its place.
-pub fn refusal_line(out: &mut [u8], layer: u64, number: u64, place: u64) -> Result<usize, LineFault>
-    ensures written { Writes (refusal_text layer number place) out.old out.new result }
-    ensures room { LONGEST_LINE ≤ length out.old → is_ok result ≡ true }
-{
-    write_line(out, b'R', &[layer, number, place])
+/// The `X` line: a crosspoint held at most `peak` bytes.
+#[derive(Clone, Copy, PartialEq, Eq, Debug)]
+pub struct Peak {
+    pub input: u64,
+    pub output: u64,
+    pub peak: u64,
+}
+
+impl Line for Peak {
+    ghost text = { λ l. peak_text l.input l.output l.peak };
+
+    fn write(&self, out: &mut [u8]) -> Result<usize, LineFault> {
+        write_line(out, 'X', &[self.input, self.output, self.peak])
+    }
+}
+
+/// The `E` line: a run's last tick, and how many bytes departed.
+#[derive(Clone, Copy, PartialEq, Eq, Debug)]
+pub struct End {
+    pub tick: u64,
+    pub bytes: u64,
+}
+
+impl Line for End {
+    ghost text = { λ l. end_text l.tick l.bytes };
+
+    fn write(&self, out: &mut [u8]) -> Result<usize, LineFault> {
+        write_line(out, 'E', &[self.tick, self.bytes])
+    }
+}
+
+/// The `R` line: the layer that refused, the fault's number, and its place.
+#[derive(Clone, Copy, PartialEq, Eq, Debug)]
+pub struct Refusal {
+    pub layer: u64,
+    pub number: u64,
+    pub place: u64,
+}
+
+impl Line for Refusal {
+    ghost text = { λ l. refusal_text l.layer l.number l.place };
+
+    fn write(&self, out: &mut [u8]) -> Result<usize, LineFault> {
+        write_line(out, 'R', &[self.layer, self.number, self.place])
+    }
 }
 
 // Writes the line of a letter and at most nine fields, if the buffer has room for all of it.
-fn write_line(out: &mut [u8], letter: u8, fields: &[u64]) -> Result<usize, LineFault>
-    requires { length fields.now ≤ 9 }
+fn write_line(out: &mut [u8], letter: char, fields: &[u64]) -> Result<usize, LineFault>
+    requires ascii { letter < 128 }
+    requires few { length fields.now ≤ 9 }
     ensures written { Writes (line_of letter fields.now) out.old out.new result }
     ensures room { LONGEST_LINE ≤ length out.old → is_ok result ≡ true }
 {
-    if out.len() < line_len(fields) {
+    let line = compose(letter, fields);
+    if out.len() < line.len() {
         return Err(LineFault::ShortBuffer);
     }
-    let mut end = write_byte(out, 0, letter);
+    out[..line.len()].copy_from_slice(line.as_str().as_bytes());
+    Ok(line.len())
+}
+
+// The line of a letter and at most nine fields.
+fn compose(letter: char, fields: &[u64]) -> ArrayString<LONGEST_LINE>
+    requires ascii { letter < 128 }
+    requires few { length fields.now ≤ 9 }
+    ensures { result.bytes ≡ line_of letter fields.now }
+{
+    let mut digits = Buffer::new();
+    let mut line = ArrayString::new();
+    line.push(letter);
     for n in fields {
-        end = write_field(out, end, *n);
+        line.push(' ');
+        line.push_str(digits.format(*n));
     }
-    Ok(write_byte(out, end, b'\n'))
-}
-
-// The length of a line with these fields, its letter and its line feed included.
-fn line_len(fields: &[u64]) -> usize
-    requires { length fields.now ≤ 9 }
-    ensures exact { result ≡ 2 + length (flat_map field fields.now) }
-    ensures most { result ≤ LONGEST_LINE }
-{
-    let mut len = 2;
-    for n in fields {
-        len += 1 + digit_count(*n);
-    }
-    len
-}
-
-// How many digits a number has.
-fn digit_count(n: u64) -> usize
-    ensures exact { result ≡ length (decimal n) }
-    ensures most { result ≤ 20 }
-{
-    if n < 10 { 1 } else { digit_count(n / 10) + 1 }
-}
-
-// Each of these writes at `at`, and answers where what it wrote ends.
-
-fn write_field(out: &mut [u8], at: usize, n: u64) -> usize
-    requires { at + length (field n) ≤ length out.old }
-    ensures end { result ≡ at + length (field n) }
-    ensures written { out.new ≡ put out.old at (field n) }
-{
-    let start = write_byte(out, at, b' ');
-    write_decimal(out, start, n)
-}
-
-fn write_decimal(out: &mut [u8], at: usize, n: u64) -> usize
-    requires { at + length (decimal n) ≤ length out.old }
-    ensures end { result ≡ at + length (decimal n) }
-    ensures written { out.new ≡ put out.old at (decimal n) }
-{
-    if n < 10 {
-        return write_byte(out, at, b'0' + n as u8);
-    }
-    let last = write_decimal(out, at, n / 10);
-    write_byte(out, last, b'0' + (n % 10) as u8)
-}
-
-fn write_byte(out: &mut [u8], at: usize, b: u8) -> usize
-    requires { at < length out.old }
-    ensures end { result ≡ at + 1 }
-    ensures written { out.new ≡ put out.old at (b ∷ []) }
-{
-    out[at] = b;
-    at + 1
+    line.push('\n');
+    line
 }
