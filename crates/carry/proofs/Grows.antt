@@ -1,5 +1,5 @@
 -- Laws of a text that is appended, piece by piece, to a vector. Assumes nothing.
-use Rattle.std.proofs.Common.{◌≡◌, ℕ, ◌+◌, ◌-◌, ◌<◌, ◌≤◌, Bool, true, false, cond, ◌&&◌, ltb, List, [], ◌++◌, length, get_or, take, drop, Ok, Err, Result, sym, refl, ap, ◌∙◌, subst, ⊎_elim, arith}
+use Rattle.std.proofs.Common.{◌≡◌, ℕ, ◌+◌, ◌<◌, ◌≤◌, Bool, true, false, cond, ◌&&◌, ltb, List, [], ◌++◌, length, get_or, take, drop, Ok, Err, Result, sym, refl, ap, ◌∙◌, subst, ⊎_elim, arith}
 use Rattle.std.proofs.lemmas.List.{append-nil, append_assoc, take_all, take_at, take_more, take-take, take-append-drop, length-append, flat_map_more}
 use Rattle.std.proofs.lemmas.Grind.{flat_map-append}
 use Rattle.std.specs.List.{flat_map}
@@ -78,12 +78,6 @@ line_written text before after r n w e =
     let same : length text ≡ n = cc in
     ap (λ (xs : List ℕ). take n xs) (w.fits h).1 ∙ take_at text _ n same)
     (cases_lt (length before) (length text))
-
--- such a line, appended
-pub append_line : (text after a b : List ℕ) (n room more : ℕ) (ok : Bool) → take n after ≡ text → Appends (take (n - 0) after) a b room more ok → Appends text a b room more ok
-append_line text after a b n room more ok is h =
-    let whole : n - 0 ≡ n = omega arith in
-    subst (λ (xs : List ℕ). Appends xs a b room more ok) (ap (λ (k : ℕ). take k after) whole ∙ is) h
 
 -- the pieces of a numbered text, one after another
 module _ (f : ℕ → List ℕ) (a b c : List ℕ) (room more most k : ℕ) (first : Appends (join_below k f) a b room more true) where

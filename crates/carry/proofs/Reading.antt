@@ -120,12 +120,12 @@ module _ {S R : Type 0} (lists : S → ℕ → ℕ → List Packet) (size : S �
         let was = reads file is read in
         as_begun file _ is was.2 (library_lists kind file was.0 rest clock plan y was.1 packet left e place f at why),
   )
-  arrival_stops Memory (inl tells) =
+  arrival_stops (Memory error) (inl tells) =
       λ file is read.
       let was = reads file is read in
       let none = goes_none kind file (head_in was.0) (run_to plan kind packet.tick y) (up_to_goes kind file was.0 rest clock plan y was.1 packet left e) before after room most tells in
       (none.0, as_begun file none.0 is was.2 none.1, none.2)
-  arrival_stops Memory (inr (grants, tells)) =
+  arrival_stops (Memory error) (inr (grants, tells)) =
       λ file is read.
       let was = reads file is read in
       let z = offered plan kind (arriving packet) (run_to plan kind packet.tick y) in

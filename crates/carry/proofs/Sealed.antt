@@ -50,7 +50,7 @@ module _ {S R : Type 0} (lists : S → ℕ → ℕ → List Packet) (size : S �
     pub stops : (q : Player S R) (before after : List ℕ) (room more : ℕ) (stop : Stop) → ReadsOn lists size kind (plan_of plan) (at_start (plan_of plan) kind) rest q before after room more (Err stop) →
         Leaves (ListsAs kind h file) before after room more (Err stop)
     stops q before after room more (Refused f) (y, tells, lists-it) = (event_lines (events_of y.log), of_head _ (lists-it file booked.items start_read), tells)
-    stops q before after room more Memory lists-it = let l = lists-it file booked.items start_read in (l.0, of_head l.0 l.1, l.2)
+    stops q before after room more (Memory error) lists-it = let l = lists-it file booked.items start_read in (l.0, of_head l.0 l.1, l.2)
 
 -- the end of the run of a file's items
 module _ {K : Type 0} (kind : Kind K) (file : List ℕ) (js : List Item) (reads : Reads refuses file (end ∷ js) []) (plan : Plan) (same : plan_in js ≡ plan) (y : Replayed K) (there : y ≡ run_arrivals plan kind (arrivals_in js)) where

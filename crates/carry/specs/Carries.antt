@@ -24,7 +24,7 @@ ListsBy sign rule.Longest = ListsAs (longest_kind sign)
 abbrev pub Leaves : (List ℕ → Type 0) → (before after : List ℕ) → (room more : ℕ) → Result (Unit {0}) Stop → Type 0
 Leaves IsListing before after room more (Ok u) = (text : List ℕ) × IsListing text × Appends text before after room more true
 Leaves IsListing before after room more (Err (Refused f)) = (text : List ℕ) × IsListing (text ++ refused_line f) × Appends text before after room more true
-Leaves IsListing before after room more (Err Memory) = (text : List ℕ) × IsListing text × Appends text before after room more false
+Leaves IsListing before after room more (Err (Memory e)) = (text : List ℕ) × IsListing text × Appends text before after room more false
 
 -- A file is carried to the end of a vector that holds `before`, with room for `room` bytes in all; then it holds `after`. The
 -- listing of the file's outcome is appended; or it does not fit into the room and there is no memory.

@@ -1,5 +1,6 @@
 -- What appending a text leaves.
-use Rattle.std.specs.Prelude.{◌≡◌, ℕ, ◌+◌, ◌<◌, ◌≤◌, Bool, true, false, List, ◌++◌, length, take}
+use Rattle.std.specs.Prelude.{◌≡◌, ℕ, ◌+◌, ◌<◌, ◌≤◌, Bool, true, false, List, ◌++◌, length, take, vec_items, vec_capacity, is_ok, Result}
+use Rattle.std.specs.declared.vec.Vec.{Vec}
 
 -- A call that is to append `text` to a vector of `before`, with room for `room` bytes in all, leaves it holding `after`, with
 -- room for `more`. Only where the text does not fit into the room that there was may it fail, for want of memory.
@@ -8,3 +9,7 @@ pub record Appends (text before after : List ℕ) (room more : ℕ) (ok : Bool) 
   pub short : ok ≡ false → room < length before + length text
   pub keeps : take (length before) after ≡ before
   pub grows : room ≤ more
+
+-- the same of a vector, and of what the call answers
+abbrev pub Adds : {Z E : Type 0} → List ℕ → (before after : Vec ℕ Z) → Result (Unit {0}) E → Type 0
+Adds text before after r = Appends text (vec_items before) (vec_items after) (vec_capacity before) (vec_capacity after) (is_ok r)

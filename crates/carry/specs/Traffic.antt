@@ -37,7 +37,7 @@ module _ {S R : Type 0} (lists : S → ℕ → ℕ → List Packet) (size : S �
   abbrev pub Brought : Plan → Kind R → Replayed R → Arrival → Player S R → ℕ → (before after : List ℕ) → (room most : ℕ) → Result (Unit {0}) Stop → Type 0
   Brought plan kind y a q place before after room most (Ok u) = (refused_by plan a ≡ None) × IsUpTo lists size plan (offered plan kind a y) q before after room most
   Brought plan kind y a q place before after room most (Err (Refused f)) = (option_map (fault_at place) (option_map cause.Arrive (refused_by plan a)) ≡ Some f) × Tells y before after room most true
-  Brought plan kind y a q place before after room most (Err Memory) = Tells y before after room most false ⊎ ((refused_by plan a ≡ None) × Tells (offered plan kind a y) before after room most false)
+  Brought plan kind y a q place before after room most (Err (Memory e)) = Tells y before after room most false ⊎ ((refused_by plan a ≡ None) × Tells (offered plan kind a y) before after room most false)
 
   -- an arrival of a file, whose tick the clock has not passed: the ticks up to it are played before
   abbrev pub Brings : Sign → (R → Rule) → (R → ℕ → ℕ → R) → (p q : Player S R) → ℕ → file.Arrival → (old new : List ℕ) → (more most : ℕ) → Result (Unit {0}) Stop → Type 0
@@ -67,5 +67,5 @@ module _ {S R : Type 0} (lists : S → ℕ → ℕ → List Packet) (size : S �
   ReadsOn plan x rest q before after room most (Err (Refused f)) =
       (y : Replayed R) × Tells y before after room most true
       × ((file : List ℕ) (is : List Item) → IsRead kind file is rest 0 plan x → ListsAs kind (head_in is) file (event_lines (events_of y.log) ++ refused_line f))
-  ReadsOn plan x rest q before after room most (Err Memory) =
+  ReadsOn plan x rest q before after room most (Err (Memory e)) =
       (file : List ℕ) (is : List Item) → IsRead kind file is rest 0 plan x → (text : List ℕ) × ListsAs kind (head_in is) file text × Appends text before after room most false

@@ -4,8 +4,9 @@ ghost use Rattle.law.specs.Step.{Plan};
 ghost use Rattle.replay.specs.Replay.{Replayed, run_tick, run_to, run_out};
 ghost use Rattle.carry.specs.Playing.{Ends, IsUpTo, PlaysOn};
 
-use crate::lines::{push_departures, push_end};
+use crate::lines::{push, push_departures};
 use crate::peaks::push_peaks;
+use listing::End;
 use plan::LAST_TICK;
 use player::{NamedRule, NamedStore, Player};
 use std::alloc::AllocError;
@@ -60,8 +61,10 @@ pub(crate) fn finish<S: NamedStore + Drop, R: NamedRule + Drop>(
     ensures { Ends S.Store.lists S.Store.size S.NamedStore.sign R.TieRule.answer R.NamedRule.next player out.old.items out.new.items (vec_capacity out.old) (vec_capacity out.new) result }
 {
     run_out(&mut player, out)?;
-    let tick = player.clock();
-    let bytes = player.bytes();
+    let end = End {
+        tick: player.clock(),
+        bytes: player.bytes(),
+    };
     push_peaks(out, &player.settle())?;
-    push_end(out, tick, bytes)
+    push(out, &end)
 }

@@ -69,11 +69,9 @@ fn list(file: &[u8], out: &mut Vec<u8>) -> Result<(), AllocError>
     ensures { (text : List ℕ) × Lists file.now text × Appends text out.old.items out.new.items (vec_capacity out.old) (vec_capacity out.new) (is_ok result) }
 {
     match play_file(file, out) {
+        Err(Stop::Refused(fault)) => push_refusal(out, fault),
+        Err(Stop::Memory(error)) => Err(error),
         Ok(()) => Ok(()),
-        Err(stop) => match stop {
-            Stop::Refused(fault) => push_refusal(out, fault),
-            Stop::Memory => Err(AllocError),
-        },
     }
 }
 
@@ -88,9 +86,8 @@ fn take_back(
 {
     if listed.is_err() {
         out.truncate(before);
-        return Err(AllocError);
     }
-    Ok(())
+    listed
 }
 
 /// Appends the listing of a run file. Want of memory leaves the vector holding what it held.

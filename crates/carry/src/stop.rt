@@ -9,7 +9,7 @@ use std::alloc::AllocError;
 #[derive(Clone, Copy)]
 pub enum Stop {
     Refused(Fault),
-    Memory,
+    Memory(AllocError),
 }
 
 impl From<Fault> for Stop {
@@ -21,9 +21,9 @@ impl From<Fault> for Stop {
 }
 
 impl From<AllocError> for Stop {
-    ghost from_gives = { λ e s. s ≡ stop.Memory };
+    ghost from_gives = { λ e s. s ≡ stop.Memory e };
 
-    fn from(_: AllocError) -> Stop {
-        Stop::Memory
+    fn from(error: AllocError) -> Stop {
+        Stop::Memory(error)
     }
 }

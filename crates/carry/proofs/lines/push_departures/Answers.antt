@@ -13,13 +13,13 @@ loop-departure-init c = append_none _ _
 
 pub loop-departure-preserved : goal.loop-departure-preserved
 loop-departure-preserved c =
-    each_more departure_text _ _ _ _ _ _ _ _ _ c.loop-departure-test.true c.loop-departure.invariant c.in_ok-push_departure.ensures
+    each_more departure_text _ _ _ _ _ _ _ _ _ c.loop-departure-test.true c.loop-departure.invariant c.in_ok-push.ensures
 
-pub returns-in_err-push_departure : goal.returns-in_err-push_departure
-returns-in_err-push_departure c =
+pub returns-in_err-push : goal.returns-in_err-push
+returns-in_err-push c =
     let p = err_from_is_err_and c.from_residual.result c.from_residual.ensures.1 in
     rw (p.1, flat_map-map event_line left c.args.departures.now)
-    (each_fails departure_text _ _ _ _ _ _ _ _ _ c.loop-departure-test.true c.loop-departure.invariant c.in_err-push_departure.ensures)
+    (each_fails departure_text _ _ _ _ _ _ _ _ _ c.loop-departure-test.true c.loop-departure.invariant c.in_err-push.ensures)
 
 pub returns : goal.returns
 returns c =

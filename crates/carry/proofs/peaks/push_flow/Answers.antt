@@ -8,20 +8,20 @@ use Rattle.state.specs.declared.fault.ReportFault.{ReportFault}
 use Rattle.carry.proofs.Grows.{append_none, told_open}
 use Rattle.carry.proofs.peaks.push_flow.Goals as goal
 
-pub returns-in-Ok : goal.returns-in-Ok
-returns-in-Ok g c s settles =
+pub returns-then-not-open : goal.returns-then-not-open
+returns-then-not-open g c s settles =
     let plan = c.args.settled.now.running.plan in
     let i = c.args.i in
     let j = c.args.j in
-    let opens = told_open c.plan.result.now plan c.plan.ensures i j c.requires.ports.0 c.requires.ports.1 c.in-Ok-true.field-0 c.in-Ok-true.ensures ∙ c.in-Ok-true.field-0-test in
-    let right : Right s i j c.report.result = c.report.ensures.law settles.0 settles.1 s settles.2.run settles.2.shows in
-    let peak = (subst (λ (r : Result Report ReportFault). Right s i j r) c.in-Ok.is right).0 in
-    rw (cond-true (ltb 0 (weight_of plan i j)) (peak_text i j (s.peak i j)) [] opens, ← peak) c.push_peak.ensures
-
-pub returns-in-Ok-false : goal.returns-in-Ok-false
-returns-in-Ok-false g c s settles =
-    let plan = c.args.settled.now.running.plan in
-    let i = c.args.i in
-    let j = c.args.j in
-    let opens = told_open c.plan.result.now plan c.plan.ensures i j c.requires.ports.0 c.requires.ports.1 c.in-Ok-false.field-0 c.in-Ok-false.ensures ∙ c.in-Ok-false.field-0-test in
+    let opens = told_open c.plan.result.now plan c.plan.ensures i j c.requires.ports.0 c.requires.ports.1 c.in-Ok.open c.in-Ok.ensures ∙ c.if-not-open.true in
     rw (cond-false (ltb 0 (weight_of plan i j)) (peak_text i j (s.peak i j)) [] opens) (append_none _ _)
+
+pub returns : goal.returns
+returns g c s settles =
+    let plan = c.args.settled.now.running.plan in
+    let i = c.args.i in
+    let j = c.args.j in
+    let opens = told_open c.plan.result.now plan c.plan.ensures i j c.requires.ports.0 c.requires.ports.1 c.in-Ok.open c.in-Ok.ensures ∙ c.if-not-open.false in
+    let right : Right s i j c.report.result = c.report.ensures.law settles.0 settles.1 s settles.2.run settles.2.shows in
+    let peak = (subst (λ (r : Result Report ReportFault). Right s i j r) c.in-Ok-report.is right).0 in
+    rw (cond-true (ltb 0 (weight_of plan i j)) (peak_text i j (s.peak i j)) [] opens, ← peak) c.push.ensures

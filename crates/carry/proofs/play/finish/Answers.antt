@@ -50,8 +50,8 @@ returns g c plan first x before room at few =
     let y = run_out plan kind (LAST_TICK - x.switch.clock) x in
     let out = c.run_out.new.out in
     let mid = c.push_peaks.new.out in
-    let after = c.push_end.new.out in
-    let ok = is_ok c.push_end.result in
+    let after = c.push.new.out in
+    let ok = is_ok c.push.result in
     let ended = c.in_ok-run_out.ensures plan first x before room at tt in
     let settled = settles g.S.Store.lists g.S.Store.size plan y c.run_out.new.player ended.plays c.settle.result c.settle.ensures in
     let peaks : Appends (peak_lines plan y.switch) (vec_items out) (vec_items mid) (vec_capacity out) (vec_capacity mid) true =
@@ -59,6 +59,6 @@ returns g c plan first x before room at few =
     (c.in_ok-push_peaks.ensures y.switch settled) in
     let last : Appends (last_line y) (vec_items mid) (vec_items after) (vec_capacity mid) (vec_capacity after) ok =
     subst (λ (text : List ℕ). Appends text (vec_items mid) (vec_items after) (vec_capacity mid) (vec_capacity after) ok)
-    (end_of g.S.Store.lists g.S.Store.size plan y c.run_out.new.player ended.plays c.clock-tick.result c.bytes-bytes.result c.clock-tick.ensures c.bytes-bytes.ensures few) c.push_end.ensures in
+    (end_of g.S.Store.lists g.S.Store.size plan y c.run_out.new.player ended.plays c.clock.result c.bytes.result c.clock.ensures c.bytes.ensures few) c.push.ensures in
     append_then (event_lines (events_of y.log)) (peak_lines plan y.switch ++ last_line y) before (vec_items out) (vec_items after) room (vec_capacity out) (vec_capacity after) ok ended.tells
     (append_then (peak_lines plan y.switch) (last_line y) (vec_items out) (vec_items mid) (vec_items after) (vec_capacity out) (vec_capacity mid) (vec_capacity after) ok peaks last)

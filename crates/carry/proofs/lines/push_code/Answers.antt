@@ -1,7 +1,0 @@
-use Rattle.carry.proofs.Grows.{append_line, line_written}
-use Rattle.carry.proofs.lines.push_code.Goals as goal
-
-pub returns : goal.returns
-returns c =
-    append_line _ c.refusal_line.new.out _ _ c.in-Ok.n _ _ _
-    (line_written _ _ c.refusal_line.new.out _ c.in-Ok.n c.refusal_line.ensures.written c.in-Ok.is) c.push.ensures

@@ -1,7 +1,0 @@
-use Rattle.carry.proofs.Grows.{append_line, line_written}
-use Rattle.carry.proofs.lines.push_end.Goals as goal
-
-pub returns : goal.returns
-returns c =
-    append_line _ c.end_line.new.out _ _ c.in-Ok.n _ _ _
-    (line_written _ _ c.end_line.new.out _ c.in-Ok.n c.end_line.ensures.written c.in-Ok.is) c.push.ensures
