@@ -1,6 +1,12 @@
 //! The program: a run file on standard input to its listing on standard output.
 #![tactic(auto)]
 
+ghost use Rattle.std.specs.Prelude.{◌≡◌, IfOk, IfSome, OnOk, take};
+ghost use Rattle.std.specs.Io.KnownBytes.{Appends};
+ghost use Rattle.runfile.specs.File.{Outcome, Comes};
+ghost use Rattle.carry.specs.Items.{refuses};
+ghost use Rattle.carry.specs.Listing.{listing};
+
 #[cfg(test)]
 mod tests;
 
@@ -11,33 +17,24 @@ use std::io::{Read, Write};
 use std::process::ExitCode;
 
 // The longest file that is accepted, and one byte more, by which a longer one is told.
-const MOST: usize = 65537;
+const MOST: u64 = 65537;
 
 // The first bytes of an input, at most `MOST`.
-fn read_file<R: Read>(alloc: Global, input: &mut R) -> anyhow::Result<Vec<u8>> {
-    let mut file = vec![in alloc; 0u8; MOST]?;
-    let mut len = 0;
-    for _ in 0..u64::MAX {
-        if len >= file.len() {
-            break;
-        }
-        let n = input.read(&mut file[len..])?;
-        if n == 0 {
-            break;
-        }
-        len += n;
-    }
-    file.truncate(len);
+fn read_file<R: Read>(alloc: Global, input: &mut R) -> anyhow::Result<Vec<u8>>
+    ensures { IfOk result (λ file. IfSome (R.remaining input.old) (λ bytes. file.items ≡ take MOST bytes)) }
+{
+    let mut file = Vec::new(alloc);
+    input.take(MOST).read_to_end(&mut file)?;
     Ok(file)
 }
 
 // Writes the listing of a run file.
-fn list<R: Read, W: Write>(alloc: Global, input: &mut R, output: &mut W) -> anyhow::Result<()> {
+fn list<R: Read, W: Write>(alloc: Global, input: &mut R, output: &mut W) -> anyhow::Result<()>
+    ensures { OnOk result (IfSome (R.remaining input.old) (λ bytes. (o : Outcome) × Comes refuses (take MOST bytes) o × Appends (W.contents output.old) (W.contents output.new) (listing o))) }
+{
     let file = read_file(alloc, input)?;
     let mut out = Vec::new(alloc);
-    if carry(&file, &mut out).is_err() {
-        return Err(anyhow!("no memory for the listing"));
-    }
+    carry(&file, &mut out).map_err(|_| anyhow!("no memory for the listing"))?;
     output.write_all(&out)?;
     Ok(())
 }

@@ -10,24 +10,15 @@ fn compare(rt: &HostRuntime, name: &str) -> anyhow::Result<bool> {
     let file = fs::read(rt, format!(in rt.alloc(); "{name}.run")?)?;
     let wanted = fs::read(rt, format!(in rt.alloc(); "{name}.out")?)?;
     let mut out = Vec::new(rt.alloc());
-    if carry(&file, &mut out).is_err() {
-        return Err(anyhow!("no memory for the listing"));
-    }
+    carry(&file, &mut out).map_err(|_| anyhow!("no memory for the listing"))?;
     Ok(out == wanted)
 }
 
-fn run(rt: &HostRuntime) -> anyhow::Result<()> {
-    let names = fs::read_to_string(rt, "names")?;
+fn main(rt: HostRuntime) -> anyhow::Result<()> {
+    let names = fs::read_to_string(&rt, "names")?;
     for name in names.as_str().lines() {
-        if compare(rt, name)? {
-            println!(rt; "{name} ok")?;
-        } else {
-            println!(rt; "{name} differs")?;
-        }
+        let verdict = if compare(&rt, name)? { "ok" } else { "differs" };
+        println!(rt; "{name} {verdict}")?;
     }
     Ok(())
-}
-
-fn main(rt: HostRuntime) -> anyhow::Result<()> {
-    run(&rt)
 }
