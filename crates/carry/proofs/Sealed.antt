@@ -1,5 +1,6 @@
 -- A run from the seal of a file to its end. Assumes nothing.
-use Rattle.std.proofs.Common.{◌≡◌, ℕ, ◌-◌, ◌^◌, ◌<◌, ◌≤◌, List, [], ◌∷◌, ◌++◌, Err, sym, ap, ◌∙◌, subst}
+use Rattle.std.proofs.Common.{◌≡◌, ℕ, ◌-◌, ◌^◌, ◌<◌, ◌≤◌, List, [], ◌∷◌, ◌++◌, vec_items, vec_capacity, Err, sym, ap, ◌∙◌, subst}
+use Rattle.std.specs.declared.vec.Vec.{Vec}
 use Rattle.plan.specs.declared.fault.TheConstants.{LAST_TICK}
 use Rattle.plan.specs.declared.table.Plan as kit
 use Rattle.store.specs.declared.packet.Packet.{Packet}
@@ -47,10 +48,11 @@ module _ {S R : Type 0} (lists : S → ℕ → ℕ → List Packet) (size : S �
     of_head text l = (l.0, l.1, l.2 ∙ booked.head_is, l.3)
 
     -- where the arrivals stop the run
-    pub stops : (q : Player S R) (before after : List ℕ) (room more : ℕ) (stop : Stop) → ReadsOn lists size kind (plan_of plan) (at_start (plan_of plan) kind) rest q before after room more (Err stop) →
-        Leaves (ListsAs kind h file) before after room more (Err stop)
-    stops q before after room more (Refused f) (y, tells, lists-it) = (event_lines (events_of y.log), of_head _ (lists-it file booked.items start_read), tells)
-    stops q before after room more (Memory error) lists-it = let l = lists-it file booked.items start_read in (l.0, of_head l.0 l.1, l.2)
+    pub stops : {Z : Type 0} (q : Player S R) (before after : Vec ℕ Z) (stop : Stop) →
+        ReadsOn lists size kind (plan_of plan) (at_start (plan_of plan) kind) rest q (vec_items before) (vec_items after) (vec_capacity before) (vec_capacity after) (Err stop) →
+        Leaves (ListsAs kind h file) before after (Err stop)
+    stops q before after (Refused f) (y, tells, lists-it) = (event_lines (events_of y.log), of_head _ (lists-it file booked.items start_read), tells)
+    stops q before after (Memory error) lists-it = let l = lists-it file booked.items start_read in (l.0, of_head l.0 l.1, l.2)
 
 -- the end of the run of a file's items
 module _ {K : Type 0} (kind : Kind K) (file : List ℕ) (js : List Item) (reads : Reads refuses file (end ∷ js) []) (plan : Plan) (same : plan_in js ≡ plan) (y : Replayed K) (there : y ≡ run_arrivals plan kind (arrivals_in js)) where

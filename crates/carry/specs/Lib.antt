@@ -1,4 +1,5 @@
 pub mod Items
+pub mod Named
 pub mod Lines
 pub mod Lists
 pub mod Listing

@@ -1,5 +1,5 @@
 -- What appending a text leaves.
-use Rattle.std.specs.Prelude.{◌≡◌, ℕ, ◌+◌, ◌<◌, ◌≤◌, Bool, true, false, List, ◌++◌, length, take, vec_items, vec_capacity, is_ok, Result}
+use Rattle.std.specs.Prelude.{◌≡◌, ℕ, ◌+◌, ◌<◌, ◌≤◌, Bool, true, false, List, ◌++◌, length, take, vec_items, vec_capacity}
 use Rattle.std.specs.declared.vec.Vec.{Vec}
 
 -- A call that is to append `text` to a vector of `before`, with room for `room` bytes in all, leaves it holding `after`, with
@@ -10,6 +10,6 @@ pub record Appends (text before after : List ℕ) (room more : ℕ) (ok : Bool) 
   pub keeps : take (length before) after ≡ before
   pub grows : room ≤ more
 
--- the same of a vector, and of what the call answers
-abbrev pub Adds : {Z E : Type 0} → List ℕ → (before after : Vec ℕ Z) → Result (Unit {0}) E → Type 0
-Adds text before after r = Appends text (vec_items before) (vec_items after) (vec_capacity before) (vec_capacity after) (is_ok r)
+-- the same of the vector itself
+abbrev pub Adds : {Z : Type 0} → List ℕ → (before after : Vec ℕ Z) → Bool → Type 0
+Adds text before after ok = Appends text (vec_items before) (vec_items after) (vec_capacity before) (vec_capacity after) ok

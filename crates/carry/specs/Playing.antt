@@ -1,16 +1,17 @@
 -- The playing of a run whose lines are appended to a vector that held `before`.
-use Rattle.std.specs.Prelude.{ℕ, ◌-◌, ◌^◌, ◌<◌, Bool, true, false, List, ◌++◌, is_ok, Ok, Err, Result}
+use Rattle.std.specs.Prelude.{ℕ, ◌-◌, ◌^◌, ◌<◌, Bool, true, false, List, ◌++◌, is_ok, Ok, Err, Result, vec_items, vec_capacity}
+use Rattle.std.specs.declared.vec.Vec.{Vec}
 use Rattle.store.specs.declared.packet.Packet.{Packet}
-use Rattle.law.specs.Rules.{Rule}
 use Rattle.law.specs.Step.{Plan}
-use Rattle.replay.specs.Kinds.{Sign, Kind}
+use Rattle.replay.specs.Kinds.{Kind}
 use Rattle.plan.specs.declared.fault.TheConstants.{LAST_TICK}
 use Rattle.replay.specs.Replay.{Replayed, run_out}
 use Rattle.replay.specs.Events.{events_of, left_in, bytes_in}
-use Rattle.player.specs.Plays.{Plays, kind_with}
+use Rattle.player.specs.Plays.{Plays}
 use Rattle.player.specs.declared.player.Player.{Player}
 use Rattle.carry.specs.Lines.{event_lines, peak_lines, last_line}
 use Rattle.carry.specs.Lists.{Appends}
+use Rattle.carry.specs.Named.{StoreOf, RuleOf, kind_of}
 
 -- what has happened in a replay is appended, or does not fit
 abbrev pub Tells : {K : Type 0} → Replayed K → (before after : List ℕ) → (room more : ℕ) → Bool → Type 0
@@ -27,17 +28,20 @@ module _ {S R : Type 0} (lists : S → ℕ → ℕ → List Packet) (size : S �
   Reaches plan y q before after room more (Ok u) = IsUpTo plan y q before after room more
   Reaches plan y q before after room more (Err e) = Tells y before after room more false
 
-  -- From any moment x at which `Soon` holds, a call plays on to the moment `on x`. Of the store its sign, of the rule its
-  -- answers and what it keeps next.
-  abbrev pub PlaysOn : {E : Type 0} → Sign → (R → Rule) → (R → ℕ → ℕ → R) → (Plan → Kind R → Replayed R → Replayed R) → (Replayed R → Type 0) →
-      (p q : Player S R) → (old new : List ℕ) → (more most : ℕ) → Result (Unit {0}) E → Type 0
-  PlaysOn sign answer next on Soon p q old new more most r =
-      (plan : Plan) (first : R) (x : Replayed R) (before : List ℕ) (room : ℕ) → IsUpTo plan x p before old room more → Soon x →
-      Reaches plan (on plan (kind_with sign answer next first) x) q before new room most r
+module _ {S R Z : Type 0} (store : StoreOf S) (rule : RuleOf R) where
+  -- A player is at some moment of a replay, and what has happened is appended.
+  abbrev pub IsPlaying : Player S R → Vec ℕ Z → Type 0
+  IsPlaying p out = (plan : Plan) × (x : Replayed R) × (before : List ℕ) × (room : ℕ) × IsUpTo store.lists store.size plan x p before (vec_items out) room (vec_capacity out)
+
+  -- From any moment x at which `Soon` holds, a call plays on to the moment `on x`.
+  abbrev pub PlaysOn : {E : Type 0} → (Plan → Kind R → Replayed R → Replayed R) → (Replayed R → Type 0) → (p q : Player S R) → (old new : Vec ℕ Z) → Result (Unit {0}) E → Type 0
+  PlaysOn on Soon p q old new r =
+      (plan : Plan) (first : R) (x : Replayed R) (before : List ℕ) (room : ℕ) → IsUpTo store.lists store.size plan x p before (vec_items old) room (vec_capacity old) → Soon x →
+      Reaches store.lists store.size plan (on plan (kind_of store rule first) x) q before (vec_items new) room (vec_capacity new) r
 
   -- A call plays on to the end of a run, and appends the peaks and the end: if the bytes of what has left can be counted.
-  abbrev pub Ends : {E : Type 0} → Sign → (R → Rule) → (R → ℕ → ℕ → R) → Player S R → (old new : List ℕ) → (more most : ℕ) → Result (Unit {0}) E → Type 0
-  Ends sign answer next p old new more most r =
-      (plan : Plan) (first : R) (x : Replayed R) (before : List ℕ) (room : ℕ) → IsUpTo plan x p before old room more →
-      let y = run_out plan (kind_with sign answer next first) (LAST_TICK - x.switch.clock) x in
-      bytes_in (left_in y.log) < 2 ^ 64 → Appends (event_lines (events_of y.log) ++ (peak_lines plan y.switch ++ last_line y)) before new room most (is_ok r)
+  abbrev pub Ends : {E : Type 0} → Player S R → (old new : Vec ℕ Z) → Result (Unit {0}) E → Type 0
+  Ends p old new r =
+      (plan : Plan) (first : R) (x : Replayed R) (before : List ℕ) (room : ℕ) → IsUpTo store.lists store.size plan x p before (vec_items old) room (vec_capacity old) →
+      let y = run_out plan (kind_of store rule first) (LAST_TICK - x.switch.clock) x in
+      bytes_in (left_in y.log) < 2 ^ 64 → Appends (event_lines (events_of y.log) ++ (peak_lines plan y.switch ++ last_line y)) before (vec_items new) room (vec_capacity new) (is_ok r)

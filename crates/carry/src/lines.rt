@@ -1,5 +1,5 @@
 //! The lines that a file comes to, appended to a vector.
-ghost use Rattle.std.specs.Prelude.{map};
+ghost use Rattle.std.specs.Prelude.{map, is_ok};
 ghost use Rattle.replay.specs.Events.{left, turned_away};
 ghost use Rattle.carry.specs.Items.{arriving};
 ghost use Rattle.carry.specs.Lines.{event_line, event_lines, refused_line};
@@ -12,7 +12,7 @@ use std::alloc::AllocError;
 
 /// Appends a line.
 pub fn push<L: Line>(out: &mut Vec<u8>, line: &L) -> Result<(), AllocError>
-    ensures { Adds (L.text line.now) out.old out.new result }
+    ensures { Adds (L.text line.now) out.old out.new (is_ok result) }
 {
     let mut text = [0; LONGEST_LINE];
     let Ok(n) = line.write(&mut text) else {
@@ -23,7 +23,7 @@ pub fn push<L: Line>(out: &mut Vec<u8>, line: &L) -> Result<(), AllocError>
 
 /// The `D` lines of packets that leave, one after another.
 pub fn push_departures(out: &mut Vec<u8>, departures: &[Departure]) -> Result<(), AllocError>
-    ensures { Adds (event_lines (map left departures.now)) out.old out.new result }
+    ensures { Adds (event_lines (map left departures.now)) out.old out.new (is_ok result) }
 {
     for departure in departures {
         push(out, departure)?;
@@ -33,7 +33,7 @@ pub fn push_departures(out: &mut Vec<u8>, departures: &[Departure]) -> Result<()
 
 /// The `N` line of an arrival that finds the store full.
 pub fn push_turned_away(out: &mut Vec<u8>, packet: Arrival) -> Result<(), AllocError>
-    ensures { Adds (event_line (turned_away (arriving packet))) out.old out.new result }
+    ensures { Adds (event_line (turned_away (arriving packet))) out.old out.new (is_ok result) }
 {
     let line = Full {
         tick: u64::from(packet.tick),
@@ -46,7 +46,7 @@ pub fn push_turned_away(out: &mut Vec<u8>, packet: Arrival) -> Result<(), AllocE
 
 /// The listing of a refused file: its `R` line.
 pub fn push_refusal(out: &mut Vec<u8>, fault: Fault) -> Result<(), AllocError>
-    ensures { Adds (refused_line fault) out.old out.new result }
+    ensures { Adds (refused_line fault) out.old out.new (is_ok result) }
 {
     let (layer, number) = fault.cause.code();
     let line = Refusal {

@@ -1,10 +1,7 @@
 //! The `X` lines of a settled switch, appended to a vector.
-ghost use Rattle.std.specs.Prelude.{◌<◌};
-ghost use Rattle.law.specs.Plans.{plan_of};
-ghost use Rattle.law.specs.Step.{Switch};
+ghost use Rattle.std.specs.Prelude.{◌<◌, is_ok};
 ghost use Rattle.carry.specs.Lines.{join_below, peak_lines, peak_of};
-ghost use Rattle.carry.specs.Lists.{Adds};
-ghost use Rattle.carry.specs.Settles.{Settles};
+ghost use Rattle.carry.specs.Settles.{AddsOf, IsSettled};
 
 use crate::lines::push;
 use listing::Peak;
@@ -19,9 +16,9 @@ fn push_flow<S: Store, R>(
     i: usize,
     j: usize,
 ) -> Result<(), AllocError>
-    requires settled { (s : Switch) × Settles S.Store.lists settled.now s }
+    requires settled { IsSettled S.Store.lists settled.now }
     requires ports { (i < settled.now.running.plan.size.ports) × (j < settled.now.running.plan.size.ports) }
-    ensures { (s : Switch) → Settles S.Store.lists settled.now s → Adds (peak_of (plan_of settled.now.running.plan) s i j) out.old out.new result }
+    ensures { AddsOf S.Store.lists settled.now (λ plan s. peak_of plan s i j) out.old out.new (is_ok result) }
 {
     let Ok(open) = settled.plan().is_open(i, j) else {
         unreachable()
@@ -46,9 +43,9 @@ fn push_row<S: Store, R>(
     settled: &Settled<S, R>,
     i: usize,
 ) -> Result<(), AllocError>
-    requires settled { (s : Switch) × Settles S.Store.lists settled.now s }
+    requires settled { IsSettled S.Store.lists settled.now }
     requires ports { i < settled.now.running.plan.size.ports }
-    ensures { (s : Switch) → Settles S.Store.lists settled.now s → Adds (join_below settled.now.running.plan.size.ports (λ j. peak_of (plan_of settled.now.running.plan) s i j)) out.old out.new result }
+    ensures { AddsOf S.Store.lists settled.now (λ plan s. join_below plan.ports (λ j. peak_of plan s i j)) out.old out.new (is_ok result) }
 {
     for j in 0..settled.plan().size.ports {
         push_flow(out, settled, i, j)?;
@@ -61,8 +58,8 @@ pub(crate) fn push_peaks<S: Store, R>(
     out: &mut Vec<u8>,
     settled: &Settled<S, R>,
 ) -> Result<(), AllocError>
-    requires settled { (s : Switch) × Settles S.Store.lists settled.now s }
-    ensures { (s : Switch) → Settles S.Store.lists settled.now s → Adds (peak_lines (plan_of settled.now.running.plan) s) out.old out.new result }
+    requires settled { IsSettled S.Store.lists settled.now }
+    ensures { AddsOf S.Store.lists settled.now peak_lines out.old out.new (is_ok result) }
 {
     for i in 0..settled.plan().size.ports {
         push_row(out, settled, i)?;

@@ -1,8 +1,7 @@
 //! The playing of a run, with the lines of what happens.
-ghost use Rattle.std.specs.Prelude.{◌-◌, ◌<◌, ◌≤◌, ℕ, List, vec_capacity};
-ghost use Rattle.law.specs.Step.{Plan};
-ghost use Rattle.replay.specs.Replay.{Replayed, run_tick, run_to, run_out};
-ghost use Rattle.carry.specs.Playing.{Ends, IsUpTo, PlaysOn};
+ghost use Rattle.std.specs.Prelude.{◌-◌, ◌<◌, ◌≤◌};
+ghost use Rattle.replay.specs.Replay.{run_out, run_tick, run_to};
+ghost use Rattle.carry.specs.Playing.{Ends, IsPlaying, PlaysOn};
 
 use crate::lines::{push, push_departures};
 use crate::peaks::push_peaks;
@@ -16,7 +15,7 @@ fn tick<S: NamedStore, R: NamedRule>(
     player: &mut Player<S, R>,
     out: &mut Vec<u8>,
 ) -> Result<(), AllocError>
-    ensures { PlaysOn S.Store.lists S.Store.size S.NamedStore.sign R.TieRule.answer R.NamedRule.next (λ plan kind x. run_tick plan kind x) (λ x. x.switch.clock < LAST_TICK) player.old player.new out.old.items out.new.items (vec_capacity out.old) (vec_capacity out.new) result }
+    ensures { PlaysOn S.NamedStore R.NamedRule (λ plan kind. run_tick plan kind) (λ x. x.switch.clock < LAST_TICK) player.old player.new out.old out.new result }
 {
     player.tick();
     push_departures(out, player.departures())
@@ -28,7 +27,7 @@ pub fn run_to<S: NamedStore, R: NamedRule>(
     until: u64,
     out: &mut Vec<u8>,
 ) -> Result<(), AllocError>
-    ensures { PlaysOn S.Store.lists S.Store.size S.NamedStore.sign R.TieRule.answer R.NamedRule.next (λ plan kind x. run_to plan kind until x) (λ x. until ≤ LAST_TICK) player.old player.new out.old.items out.new.items (vec_capacity out.old) (vec_capacity out.new) result }
+    ensures { PlaysOn S.NamedStore R.NamedRule (λ plan kind. run_to plan kind until) (λ _. until ≤ LAST_TICK) player.old player.new out.old out.new result }
 {
     for _ in 0..until.saturating_sub(player.clock()) {
         tick(player, out)?;
@@ -41,7 +40,7 @@ pub fn run_out<S: NamedStore, R: NamedRule>(
     player: &mut Player<S, R>,
     out: &mut Vec<u8>,
 ) -> Result<(), AllocError>
-    ensures { PlaysOn S.Store.lists S.Store.size S.NamedStore.sign R.TieRule.answer R.NamedRule.next (λ plan kind x. run_out plan kind (LAST_TICK - x.switch.clock) x) (λ x. Unit {0}) player.old player.new out.old.items out.new.items (vec_capacity out.old) (vec_capacity out.new) result }
+    ensures { PlaysOn S.NamedStore R.NamedRule (λ plan kind x. run_out plan kind (LAST_TICK - x.switch.clock) x) (λ _. Unit {0}) player.old player.new out.old out.new result }
 {
     for _ in 0..LAST_TICK.saturating_sub(player.clock()) {
         if player.inside() == 0 {
@@ -57,8 +56,8 @@ pub(crate) fn finish<S: NamedStore + Drop, R: NamedRule + Drop>(
     mut player: Player<S, R>,
     out: &mut Vec<u8>,
 ) -> Result<(), AllocError>
-    requires { (plan : Plan) × (x : Replayed R) × (before : List ℕ) × (room : ℕ) × IsUpTo S.Store.lists S.Store.size plan x player before out.old.items room (vec_capacity out.old) }
-    ensures { Ends S.Store.lists S.Store.size S.NamedStore.sign R.TieRule.answer R.NamedRule.next player out.old.items out.new.items (vec_capacity out.old) (vec_capacity out.new) result }
+    requires { IsPlaying S.NamedStore R.NamedRule player out.old }
+    ensures { Ends S.NamedStore R.NamedRule player out.old out.new result }
 {
     run_out(&mut player, out)?;
     let end = End {

@@ -1,11 +1,9 @@
 //! A whole run file to its listing.
 ghost use Rattle.std.specs.Prelude.{◌≡◌, ℕ, List, take, is_ok, if◌then◌else◌, vec_capacity};
-ghost use Rattle.runfile.specs.Order.{Running};
-ghost use Rattle.runfile.specs.declared.body.Head as body;
-ghost use Rattle.player.specs.Plays.{kind_with};
-ghost use Rattle.carry.specs.Booked.{BooksAt, Lists};
-ghost use Rattle.carry.specs.Carries.{Carries, Leaves, ListsBy};
-ghost use Rattle.carry.specs.Lists.{Appends};
+ghost use Rattle.carry.specs.Booked.{Lists};
+ghost use Rattle.carry.specs.Carries.{Carries, CarriesOn, Leaves, ListsBy};
+ghost use Rattle.carry.specs.Lists.{Adds};
+ghost use Rattle.carry.specs.Named.{kind_of};
 ghost use Rattle.carry.specs.Traffic.{ListsAs};
 
 use crate::book::book;
@@ -28,7 +26,7 @@ fn play<S: NamedStore + Drop, R: NamedRule + Drop>(
     rest: Rest<'_>,
     out: &mut Vec<u8>,
 ) -> Result<(), Stop>
-    ensures { (file : List ℕ) (h : body.Head) → BooksAt (Running 0) file h draft.plan rest.entry → Leaves (ListsAs (kind_with S.NamedStore.sign R.TieRule.answer R.NamedRule.next draft.rule) h file) out.old.items out.new.items (vec_capacity out.old) (vec_capacity out.new) result }
+    ensures { CarriesOn (ListsAs (kind_of S.NamedStore R.NamedRule draft.rule)) draft.plan rest.entry out.old out.new result }
 {
     let mut player = Player::new(draft);
     play_arrivals(&mut player, rest, out)?;
@@ -44,7 +42,7 @@ fn play_by<S: NamedStore + Drop>(
     rest: Rest<'_>,
     out: &mut Vec<u8>,
 ) -> Result<(), Stop>
-    ensures { (file : List ℕ) (h : body.Head) → BooksAt (Running 0) file h plan rest.entry → Leaves (ListsBy S.NamedStore.sign rule h file) out.old.items out.new.items (vec_capacity out.old) (vec_capacity out.new) result }
+    ensures { CarriesOn (ListsBy S.NamedStore.sign rule) plan rest.entry out.old out.new result }
 {
     match rule {
         RuleKind::Lowest => play(Draft::over(plan, store, Lowest), rest, out),
@@ -55,7 +53,7 @@ fn play_by<S: NamedStore + Drop>(
 
 // A file, over the store and by the rule that its head names.
 fn play_file(file: &[u8], out: &mut Vec<u8>) -> Result<(), Stop>
-    ensures { Leaves (Lists file.now) out.old.items out.new.items (vec_capacity out.old) (vec_capacity out.new) result }
+    ensures { Leaves (Lists file.now) out.old out.new result }
 {
     let (head, plan, rest) = book(file)?;
     match head.store {
@@ -66,7 +64,7 @@ fn play_file(file: &[u8], out: &mut Vec<u8>) -> Result<(), Stop>
 
 // Appends the listing of a file, or what there is memory for.
 fn list(file: &[u8], out: &mut Vec<u8>) -> Result<(), AllocError>
-    ensures { (text : List ℕ) × Lists file.now text × Appends text out.old.items out.new.items (vec_capacity out.old) (vec_capacity out.new) (is_ok result) }
+    ensures { (text : List ℕ) × Lists file.now text × Adds text out.old out.new (is_ok result) }
 {
     match play_file(file, out) {
         Err(Stop::Refused(fault)) => push_refusal(out, fault),

@@ -11,5 +11,5 @@ returns-in-Err-Refused c =
     let out = c.args.out.now in
     let mid = c.play_file.new.out in
     let line = refused_line c.in-Err-Refused.fault in
-    let l = subst (λ (stop : Stop). Leaves (Lists c.args.file.now) (vec_items out) (vec_items mid) (vec_capacity out) (vec_capacity mid) (Err stop)) c.in-Err-Refused.field-0-is c.in-Err-Refused.ensures in
+    let l = subst (λ (stop : Stop). Leaves (Lists c.args.file.now) out mid (Err stop)) c.in-Err-Refused.field-0-is c.in-Err-Refused.ensures in
     (l.0 ++ line, l.1, append_then l.0 line _ _ _ _ _ _ _ l.2 c.push_refusal.ensures)

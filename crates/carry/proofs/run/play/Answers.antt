@@ -18,7 +18,7 @@ returns-in_err-play_arrivals g c file h booked =
     let begun = starts g.S.Store.lists g.S.Store.size kind plan c.new-player.result c.new-player.ensures (vec_items out) (vec_capacity out) in
     let stopped = c.in_err-play_arrivals.ensures plan draft.rule (at_start plan kind) (vec_items out) (vec_capacity out) begun refl in
     rw (p.1, p.2)
-    (stops g.S.Store.lists g.S.Store.size kind file h draft.plan c.args.rest booked c.play_arrivals.new.player (vec_items out) (vec_items after) (vec_capacity out) (vec_capacity after) c.in_err-play_arrivals.field-0.0 stopped)
+    (stops g.S.Store.lists g.S.Store.size kind file h draft.plan c.args.rest booked c.play_arrivals.new.player out after c.in_err-play_arrivals.field-0.0 stopped)
 
 pub finish-requires : goal.finish-requires
 finish-requires g c =

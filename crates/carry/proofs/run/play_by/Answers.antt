@@ -22,8 +22,8 @@ returns-in-Lowest g c file h booked =
     let over = c.over.ensures in
     let kind = ap (λ (rule : Lowest). kind_with sign (lowest_kind sign).answer (lowest_kind sign).next rule) over.rule_kept in
     let played = c.play.ensures file h (subst (λ (plan : Plan). BooksAt (Running 0) file h plan c.args.rest) (sym over.plan_is) booked) in
-    subst (λ (rule : RuleKind). Leaves (ListsBy sign rule h file) (vec_items out) (vec_items after) (vec_capacity out) (vec_capacity after) r) (sym c.in-Lowest.is)
-    (subst (λ (k : Kind Lowest). Leaves (ListsAs k h file) (vec_items out) (vec_items after) (vec_capacity out) (vec_capacity after) r) kind played)
+    subst (λ (rule : RuleKind). Leaves (ListsBy sign rule h file) out after r) (sym c.in-Lowest.is)
+    (subst (λ (k : Kind Lowest). Leaves (ListsAs k h file) out after r) kind played)
 
 pub returns-in-Turn : goal.returns-in-Turn
 returns-in-Turn g c file h booked =
@@ -35,8 +35,8 @@ returns-in-Turn g c file h booked =
     let first : c.new.result ≡ (turn_kind sign).first = λ k. record { pointers = c.new.ensures.value k } in
     let kind = ap (λ (rule : Turn). kind_with sign (turn_kind sign).answer (turn_kind sign).next rule) (over.rule_kept ∙ first) in
     let played = c.play-in-Turn.ensures file h (subst (λ (plan : Plan). BooksAt (Running 0) file h plan c.args.rest) (sym over.plan_is) booked) in
-    subst (λ (rule : RuleKind). Leaves (ListsBy sign rule h file) (vec_items out) (vec_items after) (vec_capacity out) (vec_capacity after) r) (sym c.in-Turn.is)
-    (subst (λ (k : Kind Turn). Leaves (ListsAs k h file) (vec_items out) (vec_items after) (vec_capacity out) (vec_capacity after) r) kind played)
+    subst (λ (rule : RuleKind). Leaves (ListsBy sign rule h file) out after r) (sym c.in-Turn.is)
+    (subst (λ (k : Kind Turn). Leaves (ListsAs k h file) out after r) kind played)
 
 pub returns-in-Longest : goal.returns-in-Longest
 returns-in-Longest g c file h booked =
@@ -47,5 +47,5 @@ returns-in-Longest g c file h booked =
     let over = c.over-in-Longest.ensures in
     let kind = ap (λ (rule : Longest). kind_with sign (longest_kind sign).answer (longest_kind sign).next rule) over.rule_kept in
     let played = c.play-in-Longest.ensures file h (subst (λ (plan : Plan). BooksAt (Running 0) file h plan c.args.rest) (sym over.plan_is) booked) in
-    subst (λ (rule : RuleKind). Leaves (ListsBy sign rule h file) (vec_items out) (vec_items after) (vec_capacity out) (vec_capacity after) r) (sym c.in-Longest.is)
-    (subst (λ (k : Kind Longest). Leaves (ListsAs k h file) (vec_items out) (vec_items after) (vec_capacity out) (vec_capacity after) r) kind played)
+    subst (λ (rule : RuleKind). Leaves (ListsBy sign rule h file) out after r) (sym c.in-Longest.is)
+    (subst (λ (k : Kind Longest). Leaves (ListsAs k h file) out after r) kind played)
