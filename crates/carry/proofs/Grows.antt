@@ -1,37 +1,16 @@
 -- Laws of a text that is appended, piece by piece, to a vector. Assumes nothing.
-use Rattle.std.proofs.Common.{◌≡◌, ℕ, ◌+◌, ◌<◌, ◌≤◌, Bool, true, false, cond, ◌&&◌, ltb, List, [], ◌++◌, length, get_or, take, drop, Ok, Err, Result, sym, refl, ap, ◌∙◌, subst, ⊎_elim, arith}
-use Rattle.std.proofs.lemmas.List.{append-nil, append_assoc, take_all, take_at, take_more, take-take, take-append-drop, length-append, flat_map_more}
+use Rattle.std.proofs.Common.{◌≡◌, ℕ, ◌+◌, ◌<◌, Bool, true, false, cond, ◌&&◌, ltb, List, [], ◌++◌, length, get_or, take, drop, Ok, Err, Result, sym, refl, ap, ◌∙◌, subst, arith}
+use Rattle.std.proofs.lemmas.List.{append-nil, append_assoc, take_all, take_more, take-take, take-append-drop, length-append, flat_map_more}
 use Rattle.std.proofs.lemmas.Grind.{flat_map-append}
 use Rattle.std.specs.List.{flat_map}
-use Rattle.std.proofs.lemmas.Bool.{both_ways, cases_lt, lt-ltb}
-use Rattle.listing.specs.Line.{Writes}
-use Rattle.listing.specs.declared.LineFault.{LineFault}
+use Rattle.std.proofs.lemmas.Bool.{both_ways, lt-ltb}
 use Rattle.plan.specs.Weights.{weight_of, has_flow}
 use Rattle.plan.specs.declared.table.Plan.{Plan}
 use Rattle.plan.specs.declared.fault.PortFault.{PortFault}
 use Rattle.plan.specs.declared.fault.PortFault.TheVariants.{Port}
-use Rattle.runfile.proofs.Parts.{err≢ok}
 use Rattle.carry.specs.Lines.{join_below}
 use Rattle.carry.specs.Lists.{Appends}
 use Rattle.carry.proofs.Joins.{join_none, join_more, join_front}
-
--- a piece, as `extend_from_slice` appends it
-pub append_once : (text before after : List ℕ) (room more : ℕ) (ok : Bool) → after ≡ cond ok (before ++ text) before →
-    (length before + length text ≤ room → ok ≡ true) → room ≤ more → Appends text before after room more ok
-append_once text before after room more true is fits grows =
-    record {
-      done = λ _. is;
-      short = λ e. absurd (both_ways true e refl);
-      keeps = ap (λ (xs : List ℕ). take (length before) xs) is ∙ take_at before text (length before) refl;
-      grows = grows;
-    }
-append_once text before after room more false is fits grows =
-    record {
-      done = λ e. absurd (both_ways false refl e);
-      short = λ _. ⊎_elim (λ h. h) (λ h. absurd (both_ways false refl (fits h))) (cases_lt room (length before + length text));
-      keeps = ap (λ (xs : List ℕ). take (length before) xs) is ∙ take_all (length before) before (omega arith);
-      grows = grows;
-    }
 
 -- nothing
 pub append_none : (before : List ℕ) (room : ℕ) → Appends [] before before room room true
@@ -68,17 +47,6 @@ append_then s t a b c room more most ok first next =
       grows = omega (arith, first.grows, next.grows);
     }
 
--- a line that was written into a buffer stands at its front
-pub line_written : (text before after : List ℕ) (r : Result ℕ LineFault) (n : ℕ) → Writes text before after r → r ≡ Ok n → take n after ≡ text
-line_written text before after r n w e =
-    ⊎_elim
-    (λ (h : length before < length text). absurd (err≢ok (sym (w.short h).0 ∙ e)))
-    (λ (h : length text ≤ length before).
-    let x = (w.fits h).0 in
-    let same : length text ≡ n = cc in
-    ap (λ (xs : List ℕ). take n xs) (w.fits h).1 ∙ take_at text _ n same)
-    (cases_lt (length before) (length text))
-
 -- the pieces of a numbered text, one after another
 module _ (f : ℕ → List ℕ) (a b c : List ℕ) (room more most k : ℕ) (first : Appends (join_below k f) a b room more true) where
   pub pieces_more : Appends (f k) b c more most true → Appends (join_below (k + 1) f) a c room most true
@@ -98,11 +66,6 @@ pieces_none f a room = subst (λ (xs : List ℕ). Appends xs a a room room true)
 
 -- the lines of the things of a list, one after another
 module _ {X : Type 0} (f : X → List ℕ) (xs : List X) (a b c : List ℕ) (room more most k : ℕ) (d : X) (within : k < length xs) (first : Appends (flat_map f (take k xs)) a b room more true) where
-  pub each_more : Appends (f (get_or xs k d)) b c more most true → Appends (flat_map f (take (k + 1) xs)) a c room most true
-  each_more next =
-      let here : flat_map f (take k xs) ++ f (get_or xs k d) ≡ flat_map f (take (k + 1) xs) = flat_map_more f [] (take k xs) (get_or xs k d) ∙ ap (λ ys. flat_map f ys) (sym (take_more xs k d within)) in
-      subst (λ (ys : List ℕ). Appends ys a c room most true) here (append_then (flat_map f (take k xs)) (f (get_or xs k d)) a b c room more most true first next)
-
   pub each_fails : Appends (f (get_or xs k d)) b c more most false → Appends (flat_map f xs) a c room most false
   each_fails next =
       let here : flat_map f (take k xs) ++ f (get_or xs k d) ≡ flat_map f (take (k + 1) xs) = flat_map_more f [] (take k xs) (get_or xs k d) ∙ ap (λ ys. flat_map f ys) (sym (take_more xs k d within)) in

@@ -1,15 +1,14 @@
 -- The playing of the arrivals of a run file.
-use Rattle.std.specs.Prelude.{◌≡◌, ℕ, ◌≤◌, ◌⊎◌, true, false, List, [], ◌∷◌, ◌++◌, Some, None, Ok, Err, Option, Result}
+use Rattle.std.specs.Prelude.{◌≡◌, ℕ, ◌≤◌, ◌⊎◌, true, false, List, [], ◌∷◌, ◌++◌, Some, None, Ok, Err, Option, Result, vec_items, vec_capacity}
+use Rattle.std.specs.declared.vec.Vec.{Vec}
 use Rattle.std.specs.Option.{option_map}
 use Rattle.plan.specs.Refusals.{arrive_refusal}
 use Rattle.plan.specs.declared.fault.ArriveFault.{ArriveFault}
 use Rattle.store.specs.declared.packet.Packet.{Packet}
-use Rattle.law.specs.Rules.{Rule}
 use Rattle.law.specs.Step.{Plan}
-use Rattle.replay.specs.Kinds.{Sign, Kind}
+use Rattle.replay.specs.Kinds.{Kind}
 use Rattle.replay.specs.Replay.{Arrival, Replayed, run_to, offered, run_arrivals}
 use Rattle.replay.specs.Events.{events_of}
-use Rattle.player.specs.Plays.{kind_with}
 use Rattle.player.specs.declared.player.Player.{Player}
 use Rattle.runfile.specs.File.{phase_of, Reads, Outcome, Comes}
 use Rattle.runfile.specs.Order.{Item, end, Running}
@@ -24,6 +23,7 @@ use Rattle.carry.specs.Items.{head_in, plan_in, arriving, arrivals_in, refuses}
 use Rattle.carry.specs.Lines.{event_lines, refused_line}
 use Rattle.carry.specs.Listing.{items_in, listing_with}
 use Rattle.carry.specs.Lists.{Appends}
+use Rattle.carry.specs.Named.{StoreOf, RuleOf, kind_of}
 use Rattle.carry.specs.Booked.{Stands}
 use Rattle.carry.specs.Playing.{Tells, IsUpTo}
 
@@ -39,11 +39,11 @@ module _ {S R : Type 0} (lists : S → ℕ → ℕ → List Packet) (size : S �
   Brought plan kind y a q place before after room most (Err (Refused f)) = (option_map (fault_at place) (option_map cause.Arrive (refused_by plan a)) ≡ Some f) × Tells y before after room most true
   Brought plan kind y a q place before after room most (Err (Memory e)) = Tells y before after room most false ⊎ ((refused_by plan a ≡ None) × Tells (offered plan kind a y) before after room most false)
 
-  -- an arrival of a file, whose tick the clock has not passed: the ticks up to it are played before
-  abbrev pub Brings : Sign → (R → Rule) → (R → ℕ → ℕ → R) → (p q : Player S R) → ℕ → file.Arrival → (old new : List ℕ) → (more most : ℕ) → Result (Unit {0}) Stop → Type 0
-  Brings sign answer next p q place packet old new more most r =
-      (plan : Plan) (first : R) (x : Replayed R) (before : List ℕ) (room : ℕ) → IsUpTo lists size plan x p before old room more → x.switch.clock ≤ packet.tick →
-      Brought plan (kind_with sign answer next first) (run_to plan (kind_with sign answer next first) packet.tick x) (arriving packet) q place before new room most r
+-- an arrival of a file, whose tick the clock has not passed: the ticks up to it are played before
+abbrev pub Brings : {S R Z : Type 0} → StoreOf S → RuleOf R → (p q : Player S R) → ℕ → file.Arrival → (old new : Vec ℕ Z) → Result (Unit {0}) Stop → Type 0
+Brings {S} {R} store rule p q place packet old new r =
+    (plan : Plan) (first : R) (x : Replayed R) (before : List ℕ) (room : ℕ) → IsUpTo store.lists store.size plan x p before (vec_items old) room (vec_capacity old) → x.switch.clock ≤ packet.tick →
+    Brought store.lists store.size plan (kind_of store rule first) (run_to plan (kind_of store rule first) packet.tick x) (arriving packet) q place before (vec_items new) room (vec_capacity new) r
 
 -- The reading of a file has come to the moment x of its run: to items that end with an arrival at this tick, or with the seal.
 pub record IsRead {K : Type 0} (kind : Kind K) (file : List ℕ) (is : List Item) (rest : Rest) (clock : ℕ) (plan : Plan) (x : Replayed K) : Type 0 where
@@ -69,3 +69,9 @@ module _ {S R : Type 0} (lists : S → ℕ → ℕ → List Packet) (size : S �
       × ((file : List ℕ) (is : List Item) → IsRead kind file is rest 0 plan x → ListsAs kind (head_in is) file (event_lines (events_of y.log) ++ refused_line f))
   ReadsOn plan x rest q before after room most (Err (Memory e)) =
       (file : List ℕ) (is : List Item) → IsRead kind file is rest 0 plan x → (text : List ℕ) × ListsAs kind (head_in is) file text × Appends text before after room most false
+
+-- the arrivals of a file are played from tick 0 of its run up to its end record
+abbrev pub Arrives : {S R Z : Type 0} → StoreOf S → RuleOf R → (p q : Player S R) → Rest → (old new : Vec ℕ Z) → Result (Unit {0}) Stop → Type 0
+Arrives {S} {R} store rule p q rest old new r =
+    (plan : Plan) (first : R) (x : Replayed R) (before : List ℕ) (room : ℕ) → IsUpTo store.lists store.size plan x p before (vec_items old) room (vec_capacity old) → x.switch.clock ≡ 0 →
+    ReadsOn store.lists store.size (kind_of store rule first) plan x rest q before (vec_items new) room (vec_capacity new) r

@@ -37,7 +37,7 @@ fn push_flow<S: Store, R>(
     push(out, &line)
 }
 
-// The `X` lines of an input's open flows.
+// The `X` lines of an input's open flows. A port is a number: there is no list of flows to go over.
 fn push_row<S: Store, R>(
     out: &mut Vec<u8>,
     settled: &Settled<S, R>,

@@ -1,4 +1,5 @@
-//! The playing of a run, with the lines of what happens.
+//! The playing of a run, with the lines of what happens. A player and a vector stay two parameters: at its end the one goes,
+//! and the other is the caller's.
 ghost use Rattle.std.specs.Prelude.{◌-◌, ◌<◌, ◌≤◌};
 ghost use Rattle.replay.specs.Replay.{run_out, run_tick, run_to};
 ghost use Rattle.carry.specs.Playing.{Ends, IsPlaying, PlaysOn};

@@ -34,7 +34,7 @@ fn play<S: NamedStore + Drop, R: NamedRule + Drop>(
     Ok(())
 }
 
-// The same, over this plan and store and by the rule of this name.
+// The same, over this plan and store and by the rule of this name. Each arm runs over a type of its own.
 fn play_by<S: NamedStore + Drop>(
     plan: Plan,
     store: S,

@@ -1,10 +1,5 @@
 //! The arrivals of a run file.
-ghost use Rattle.std.specs.Prelude.{◌≡◌, ℕ, List, vec_capacity};
-ghost use Rattle.law.specs.Step.{Plan};
-ghost use Rattle.replay.specs.Replay.{Replayed};
-ghost use Rattle.player.specs.Plays.{kind_with};
-ghost use Rattle.carry.specs.Playing.{IsUpTo};
-ghost use Rattle.carry.specs.Traffic.{Brings, ReadsOn};
+ghost use Rattle.carry.specs.Traffic.{Arrives, Brings};
 
 use crate::lines::push_turned_away;
 use crate::play::run_to;
@@ -20,7 +15,7 @@ fn bring<S: NamedStore, R: NamedRule>(
     packet: Arrival,
     out: &mut Vec<u8>,
 ) -> Result<(), Stop>
-    ensures { Brings S.Store.lists S.Store.size S.NamedStore.sign R.TieRule.answer R.NamedRule.next player.old player.new place packet out.old.items out.new.items (vec_capacity out.old) (vec_capacity out.new) result }
+    ensures { Brings S.NamedStore R.NamedRule player.old player.new place packet out.old out.new result }
 {
     run_to(player, packet.tick as u64, out)?;
     let Err(fault) = player.arrive(
@@ -48,7 +43,7 @@ pub fn play_arrivals<S: NamedStore, R: NamedRule>(
     mut rest: Rest<'_>,
     out: &mut Vec<u8>,
 ) -> Result<(), Stop>
-    ensures { (plan : Plan) (first : R) (x : Replayed R) (before : List ℕ) (room : ℕ) → IsUpTo S.Store.lists S.Store.size plan x player.old before out.old.items room (vec_capacity out.old) → x.switch.clock ≡ 0 → ReadsOn S.Store.lists S.Store.size (kind_with S.NamedStore.sign R.TieRule.answer R.NamedRule.next first) plan x rest.entry player.new before out.new.items room (vec_capacity out.new) result }
+    ensures { Arrives S.NamedStore R.NamedRule player.old player.new rest.entry out.old out.new result }
 {
     let mut clock = 0;
     loop {

@@ -5,15 +5,8 @@ use Rattle.std.proofs.lemmas.Result.{err_from_is_err_and}
 use Rattle.listing.specs.Line.{departure_text}
 use Rattle.replay.specs.Events.{left}
 use Rattle.carry.specs.Lines.{event_line}
-use Rattle.carry.proofs.Grows.{append_none, each_more, each_fails}
+use Rattle.carry.proofs.Grows.{each_fails}
 use Rattle.carry.proofs.lines.push_departures.Goals as goal
-
-pub loop-departure-init : goal.loop-departure-init
-loop-departure-init c = append_none _ _
-
-pub loop-departure-preserved : goal.loop-departure-preserved
-loop-departure-preserved c =
-    each_more departure_text _ _ _ _ _ _ _ _ _ c.loop-departure-test.true c.loop-departure.invariant c.in_ok-push.ensures
 
 pub returns-in_err-push : goal.returns-in_err-push
 returns-in_err-push c =

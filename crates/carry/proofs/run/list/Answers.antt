@@ -1,4 +1,4 @@
-use Rattle.std.proofs.Common.{◌++◌, Err, vec_items, vec_capacity, subst}
+use Rattle.std.proofs.Common.{◌++◌, Err, subst}
 use Rattle.carry.specs.declared.stop.Stop.{Stop}
 use Rattle.carry.specs.Booked.{Lists}
 use Rattle.carry.specs.Carries.{Leaves}

@@ -1,4 +1,4 @@
-use Rattle.std.proofs.Common.{◌≡◌, vec_items, vec_capacity, sym, ap, ◌∙◌, subst}
+use Rattle.std.proofs.Common.{◌≡◌, sym, ap, ◌∙◌, subst}
 use Rattle.plan.specs.declared.table.Plan.{Plan}
 use Rattle.tie.specs.declared.rules.Lowest.{Lowest}
 use Rattle.tie.specs.declared.rules.Turn.{Turn}
