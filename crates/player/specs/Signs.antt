@@ -6,8 +6,7 @@ use Rattle.grid.specs.Flows.{in_grid}
 use Rattle.store.specs.Stored.{stored}
 use Rattle.store.specs.declared.packet.Packet.{Packet}
 use Rattle.law.specs.Step.{Plan, Switch}
-use Rattle.rings.specs.Held.{lists_in, full_at_two}
-use Rattle.rings.specs.declared.ring.Ring.{Ring}
+use Rattle.rings.specs.Held.{full_at_two}
 use Rattle.pool.specs.Held.{full_at_512}
 use Rattle.replay.specs.Kinds.{rings_sign, pool_sign}
 use Rattle.player.specs.Held.{Holds}
@@ -16,11 +15,8 @@ module _ (lists : ℕ → ℕ → List Packet) (plan : Plan) (s : Switch) (h : H
   within : in_grid i j ≡ true
   within = rw (lt-ltb i 16 (omega (arith, h.few_ports)), lt-ltb j 16 (omega (arith, h.few_ports)))
 
-  two_signs : full_at_two lists i j ≡ rings_sign plan s i j
-  two_signs = ap (λ b. cond b (nat_le 2 (length (lists i j))) true) within ∙ ap (nat_le 2) (h.each i j)
+  pub rings_signs : full_at_two lists i j ≡ rings_sign plan s i j
+  rings_signs = ap (λ b. cond b (nat_le 2 (length (lists i j))) true) within ∙ ap (nat_le 2) (h.each i j)
 
   pub pool_signs : full_at_512 lists i j ≡ pool_sign plan s i j
   pool_signs = ap (λ b. cond b (nat_le 512 (stored lists)) true) within ∙ ap (nat_le 512) h.all
-
-pub rings_signs : (rings : List Ring) (plan : Plan) (s : Switch) → Holds (lists_in rings) plan s → (i j : ℕ) → i < plan.ports → j < plan.ports → full_at_two (lists_in rings) i j ≡ rings_sign plan s i j
-rings_signs rings = two_signs (lists_in rings)

@@ -33,7 +33,7 @@ impl NamedStore for Rings {
 
     ghost flow_most = { 2 };
 
-    ghost signs = { λ store. rings_signs store.rings };
+    ghost signs = { λ store. rings_signs (⟦<Rings as Store>⟧.lists store) };
 
     ghost fits = { λ store plan bookable. (signs_fit plan bookable).0 };
 }
