@@ -1,8 +1,9 @@
 -- The lowest of the marks that stand first is the lowest of those that wait with the most bytes.
-use Rattle.std.specs.Prelude.{◌≡◌, ℕ, zero, suc, ◌<◌, ◌≤◌, true, false, ◌⊎◌, length, get_or, Some, None, Decides, Option, MatchOption, slice_index, slice_index_or}
+use Rattle.std.specs.Prelude.{◌≡◌, ℕ, zero, suc, ◌<◌, ◌≤◌, true, false, ◌⊎◌, length, get_or, Some, None, Decides, MatchOption, slice_index, slice_index_or}
 use Rattle.std.proofs.Common.{inl, inr, ⊎_elim, sym, ap, ◌∙◌, arith}
 use Rattle.std.proofs.lemmas.List.FromFn.{get_or-map-range_with_len, length-map-range_with_len}
 use Rattle.std.proofs.lemmas.List.{get_or_past}
+use Rattle.std.proofs.lemmas.Option.{none-some}
 use Rattle.std.proofs.lemmas.Bool.{both_ways, cases_Bool, cases_lt, le-ltb, ltb-false}
 use Rattle.tie.specs.declared.question.Question.{Question}
 use Rattle.tie.specs.Rounds.{below_suc, cases_weaker, lowest_law}
@@ -11,9 +12,6 @@ use Rattle.timing.proofs.Firsts.{tied_decides}
 use Rattle.std.specs.declared.cmp.Reverse.{Reverse}
 use Rattle.timing.specs.Marks.{First, tied}
 use Rattle.timing.specs.Order.{nat_less}
-
-none≢some : {X : Type 0} (x : X) → ◌≡◌ {A = Option X} None (Some x) → ⊥
-none≢some x e = let z : ◌≡◌ {A = ℕ} 0 1 = cc in omega arith
 
 module _ (question : Question) where
   -- of the first n positions, k is tied, and no tied one waits with more
@@ -60,9 +58,9 @@ module _ (question : Question) where
       ⊎_elim
       (λ h. ⊎_elim
       (λ t. let s : Some (record { 0 = w }) ≡ Some x = sym (marks_at j h ∙ ap (λ b. mark b w) t) ∙ e in let r : record { 0 = w } ≡ x = cc in (h, t, sym (ap (λ b. b.0) r)))
-      (λ f. absurd (none≢some x (sym (marks_at j h ∙ ap (λ b. mark b w) f) ∙ e)))
+      (λ f. absurd (none-some x (sym (marks_at j h ∙ ap (λ b. mark b w) f) ∙ e)))
       (cases_Bool (slice_index_or question.tied j false)))
-      (λ h. absurd (none≢some x (sym (get_or_past (marks question) j None (omega (arith, marks_length))) ∙ e)))
+      (λ h. absurd (none-some x (sym (get_or_past (marks question) j None (omega (arith, marks_length))) ∙ e)))
       (cases_lt j 16)
 
   first_from_most : (k : ℕ) → Most 16 k → First larger (marks question) k

@@ -9,16 +9,10 @@ use Rattle.std.proofs.lemmas.Cmp.{tied_itself, upto}
 use Rattle.std.proofs.lemmas.List.FromFn.{fill_by_all}
 use Rattle.std.proofs.lemmas.List.{get_or-map, length-map}
 use Rattle.std.proofs.lemmas.Bool.{true≢false}
-use Rattle.timing.proofs.Firsts.{none≢some, none_holds}
+use Rattle.std.proofs.lemmas.Option.{none-some}
+use Rattle.std.proofs.Math.Bool.{and_assoc, and-true}
+use Rattle.timing.proofs.Firsts.{none_holds}
 use Rattle.timing.specs.Marks.{less, none_before, stands_first}
-
-and_true : (a : Bool) → a ≡ (a && true)
-and_true true = refl
-and_true false = refl
-
-and_assoc : (a b c : Bool) → ((a && b) && c) ≡ (a && (b && c))
-and_assoc true b c = refl
-and_assoc false b c = refl
 
 keeps : (a b : Bool) → (a ≡ false → b ≡ false) → not a ≡ (not a && not b)
 keeps true b h = refl
@@ -63,7 +57,7 @@ module _ {M : Type 0} (cmp : M → M → Ordering) (total : IsTotalOrder cmp) wh
   one_more x y m Greater e = takes (less cmp x m) (less cmp y m) (negatively_transitive x y m (ap is_lt e))
 
   none_less : (row : List (Option M)) (x m : M) → not (less cmp (fold least_of x (filter_map (λ o. o) row)) m) ≡ (not (less cmp x m) && none_before (less cmp) row m)
-  none_less [] x m = and_true (not (less cmp x m))
+  none_less [] x m = sym (and-true (not (less cmp x m)))
   none_less (None ∷ row) x m = none_less row x m
   none_less (Some y ∷ row) x m =
       none_less row (least_of x y) m
@@ -78,8 +72,8 @@ module _ {M : Type 0} (cmp : M → M → Ordering) (total : IsTotalOrder cmp) wh
 
   module _ (eq : M → M → Bool) (matches : (x y : M) → eq x y ≡ is_eq (cmp x y)) where
     equal_to_least : (row : List (Option M)) (k : ℕ) (m : M) → get_or row k None ≡ Some m → option_eq eq (Some m) (reduce least_of (filter_map (λ o. o) row)) ≡ none_before (less cmp) row m
-    equal_to_least [] k m e = absurd (none≢some m e)
-    equal_to_least (None ∷ row) zero m e = absurd (none≢some m e)
+    equal_to_least [] k m e = absurd (none-some m e)
+    equal_to_least (None ∷ row) zero m e = absurd (none-some m e)
     equal_to_least (None ∷ row) (suc k) m e = equal_to_least row k m e
     equal_to_least (Some x ∷ row) k m e =
         let b = fold least_of x (filter_map (λ o. o) row) in
