@@ -1,14 +1,9 @@
-use Rattle.std.proofs.Common.{◌≡◌, ◌+◌, ◌%◌, ◌^◌, length, get_or, None, sym, refl, ap, ◌∙◌, arith, rules}
+use Rattle.std.proofs.Common.{◌≡◌, ◌+◌, ◌%◌, ◌^◌, length, None, sym, refl, ap, ◌∙◌, arith, rules}
 use Rattle.grid.specs.Flows.{with_flow}
 use Rattle.switch.specs.Calls.{state_of}
 use Rattle.state.proofs.Lists.{lines_set}
-use Rattle.state.proofs.FinishInCode.{ends_within, finished_is}
+use Rattle.state.proofs.FinishInCode.{finished_is}
 use Rattle.switch.proofs.running.Running.finish.Goals as goal
-
-pub invariant_of-flow-clause-from_inside : goal.invariant_of-flow-clause-from_inside
-invariant_of-flow-clause-from_inside g c =
-    let s = c.args.self.now in
-    ends_within s.clock (get_or s.sending c.args.port.index None) c.in_ok-load.load (sym c.ends_at.ensures ∙ c.in_ok-load.was)
 
 pub returns : goal.returns
 returns g c =
