@@ -7,7 +7,8 @@ use Rattle.runfile.specs.Order.{Item, head, share, seal, arrival, end, Phase, Ru
 use Rattle.runfile.specs.Bodies.{arrival_of}
 use Rattle.runfile.specs.declared.body.Arrival.{Arrival}
 use Rattle.runfile.specs.declared.fault.Cause.{Cause}
-use Rattle.runfile.specs.declared.fault.Cause.TheVariants.{OutOfOrder, EarlyTick}
+use Rattle.runfile.specs.declared.fault.Cause.TheVariants.{Read}
+use Rattle.runfile.specs.declared.fault.ReadFault.TheVariants.{OutOfOrder, EarlyTick}
 use Rattle.runfile.specs.declared.fault.Fault.{Fault}
 
 pub err≢ok : {T E : Type 0} {y : E} {x : T} → Err y ≡ Ok x → ⊥
@@ -102,7 +103,7 @@ arrival_means : (clock kind : ℕ) (body : List ℕ) (b : Arrival) → item_of (
 arrival_means clock kind body b e = go (eqb kind 4) (ltb (arrival_of body).tick clock) refl (eqb kind 5) e
   where
     go : (four early : Bool) → ltb (arrival_of body).tick clock ≡ early → (five : Bool) →
-        cond four (cond early (Err EarlyTick) (Ok (arrival (arrival_of body)))) (cond five (Ok end) (Err OutOfOrder)) ≡ Ok (arrival b) → clock ≤ b.tick
+        cond four (cond early (Err (Read EarlyTick)) (Ok (arrival (arrival_of body)))) (cond five (Ok end) (Err (Read OutOfOrder))) ≡ Ok (arrival b) → clock ≤ b.tick
     go true true l five e = absurd (err≢ok e)
     go true false l five e = let same : (arrival_of body).tick ≡ b.tick = cc in omega (arith, same, ltb-false (arrival_of body).tick clock l)
     go false early l true e = absurd (let z : ◌≡◌ {A = ℕ} 0 1 = cc in omega arith)

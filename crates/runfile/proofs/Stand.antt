@@ -9,7 +9,8 @@ use Rattle.runfile.specs.Order.{Item, head, share, seal, arrival, end, Phase, Op
 use Rattle.runfile.specs.declared.body.Head.{Head}
 use Rattle.runfile.specs.declared.body.Arrival.{Arrival}
 use Rattle.runfile.specs.declared.fault.Cause.{Cause}
-use Rattle.runfile.specs.declared.fault.Cause.TheVariants.{OutOfOrder, EarlyTick}
+use Rattle.runfile.specs.declared.fault.Cause.TheVariants.{Read}
+use Rattle.runfile.specs.declared.fault.ReadFault.TheVariants.{OutOfOrder, EarlyTick}
 use Rattle.runfile.proofs.Parts.{err≢ok, from_next}
 use Rattle.runfile.proofs.Bytes.{bytes_left, sized}
 
@@ -25,18 +26,18 @@ told : (phase : Phase) (j i : Item) → MayStand phase j → ◌≡◌ {A = Resu
 told phase j i h e = let same : j ≡ i = cc in subst (λ (k : Item). MayStand phase k) same h
 
 module _ (body : List ℕ) (i : Item) where
-  opening : (one : Bool) (o : Option Head) → cond one (head_item o) (Err OutOfOrder) ≡ Ok i → MayStand Opening i
+  opening : (one : Bool) (o : Option Head) → cond one (head_item o) (Err (Read OutOfOrder)) ≡ Ok i → MayStand Opening i
   opening true None e = absurd (err≢ok e)
   opening true (Some h) e = told Opening (head h) i refl e
   opening false o e = absurd (err≢ok e)
 
-  booking : (two three : Bool) → cond two (Ok (share (share_of body))) (cond three (Ok seal) (Err OutOfOrder)) ≡ Ok i → MayStand Booking i
+  booking : (two three : Bool) → cond two (Ok (share (share_of body))) (cond three (Ok seal) (Err (Read OutOfOrder))) ≡ Ok i → MayStand Booking i
   booking true three e = told Booking (share (share_of body)) i refl e
   booking false true e = told Booking seal i refl e
   booking false false e = absurd (err≢ok e)
 
   running : (clock : ℕ) (four early five : Bool) → ltb (arrival_of body).tick clock ≡ early →
-      cond four (cond early (Err EarlyTick) (Ok (arrival (arrival_of body)))) (cond five (Ok end) (Err OutOfOrder)) ≡ Ok i → MayStand (Running clock) i
+      cond four (cond early (Err (Read EarlyTick)) (Ok (arrival (arrival_of body)))) (cond five (Ok end) (Err (Read OutOfOrder))) ≡ Ok i → MayStand (Running clock) i
   running clock true true five l e = absurd (err≢ok e)
   running clock true false five l e = told (Running clock) (arrival (arrival_of body)) i (clock, refl, ltb-false (arrival_of body).tick clock l) e
   running clock false early true l e = told (Running clock) end i (clock, refl) e
@@ -56,7 +57,7 @@ arrival_kind : (clock kind : ℕ) (body : List ℕ) (a : Arrival) → item_of (R
 arrival_kind clock kind body a e = go (eqb kind 4) refl (ltb (arrival_of body).tick clock) (eqb kind 5) e
   where
     go : (four : Bool) → eqb kind 4 ≡ four → (early five : Bool) →
-        cond four (cond early (Err EarlyTick) (Ok (arrival (arrival_of body)))) (cond five (Ok end) (Err OutOfOrder)) ≡ Ok (arrival a) → (kind ≡ 4) × (arrival_of body ≡ a)
+        cond four (cond early (Err (Read EarlyTick)) (Ok (arrival (arrival_of body)))) (cond five (Ok end) (Err (Read OutOfOrder))) ≡ Ok (arrival a) → (kind ≡ 4) × (arrival_of body ≡ a)
     go true k true five e = absurd (err≢ok e)
     go true k false five e = (eqb-true kind 4 k, cc)
     go false k early true e = absurd (let z : ◌≡◌ {A = ℕ} 0 1 = cc in omega arith)

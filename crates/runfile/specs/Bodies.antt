@@ -1,5 +1,5 @@
 -- What the bodies of records say. Numbers are unsigned, higher byte first.
-use Rattle.std.specs.Prelude.{ℕ, ◌+◌, ◌*◌, cond, List, Some, None, Option, ◌==◌, slice_index}
+use Rattle.std.specs.Prelude.{◌≡◌, ℕ, ◌+◌, ◌*◌, cond, List, Some, None, Option, Result, MatchResult, ◌==◌, slice_index}
 use Rattle.runfile.specs.declared.body.StoreKind.{StoreKind}
 use Rattle.runfile.specs.declared.body.StoreKind.TheVariants.{Rings, Pool}
 use Rattle.runfile.specs.declared.body.RuleKind.{RuleKind}
@@ -7,6 +7,8 @@ use Rattle.runfile.specs.declared.body.RuleKind.TheVariants.{Lowest, Turn, Longe
 use Rattle.runfile.specs.declared.body.Head.{Head}
 use Rattle.runfile.specs.declared.body.Share.{Share}
 use Rattle.runfile.specs.declared.body.Arrival.{Arrival}
+use Rattle.runfile.specs.declared.fault.ReadFault.{ReadFault}
+use Rattle.runfile.specs.declared.fault.ReadFault.TheVariants.{UnknownChoice}
 
 -- the byte at k, and the numbers of two and of three bytes from k on
 abbrev pub one : List ℕ → ℕ → ℕ
@@ -24,6 +26,10 @@ store_of k = cond (k == 1) (Some Rings) (cond (k == 2) (Some Pool) None)
 
 abbrev pub rule_of : ℕ → Option RuleKind
 rule_of k = cond (k == 1) (Some Lowest) (cond (k == 2) (Some Turn) (cond (k == 3) (Some Longest) None))
+
+-- the value is found, or none is and the choice is unknown
+abbrev pub Finds : {T : Type 0} → Option T → Result T ReadFault → Type 0
+Finds o r = MatchResult r (λ x. o ≡ Some x) (λ f. (o ≡ None) × (f ≡ UnknownChoice))
 
 -- head: N (1 byte), L (2), W (2), store (1), rule (1)
 abbrev pub head_with : List ℕ → Option StoreKind → Option RuleKind → Option Head

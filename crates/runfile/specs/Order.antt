@@ -6,7 +6,8 @@ use Rattle.runfile.specs.declared.body.Head.{Head}
 use Rattle.runfile.specs.declared.body.Share.{Share}
 use Rattle.runfile.specs.declared.body.Arrival.{Arrival}
 use Rattle.runfile.specs.declared.fault.Cause.{Cause}
-use Rattle.runfile.specs.declared.fault.Cause.TheVariants.{OutOfOrder, EarlyTick, UnknownChoice, AfterEnd}
+use Rattle.runfile.specs.declared.fault.Cause.TheVariants.{Read}
+use Rattle.runfile.specs.declared.fault.ReadFault.TheVariants.{OutOfOrder, EarlyTick, UnknownChoice, AfterEnd}
 use Rattle.runfile.specs.declared.fault.Fault.{Fault}
 
 -- a record, as the file means it
@@ -32,19 +33,19 @@ phase_after (arrival a) = Running a.tick
 phase_after end = Ended
 
 abbrev pub head_item : Option Head → Result Item Cause
-head_item None = Err UnknownChoice
+head_item None = Err (Read UnknownChoice)
 head_item (Some h) = Ok (head h)
 
 -- what a record of this kind and body means in a phase, or why it may not stand there
 abbrev pub item_of : Phase → ℕ → List ℕ → Result Item Cause
-item_of Opening kind body = cond (kind == 1) (head_item (head_of body)) (Err OutOfOrder)
+item_of Opening kind body = cond (kind == 1) (head_item (head_of body)) (Err (Read OutOfOrder))
 item_of Booking kind body =
     cond (kind == 2) (Ok (share (share_of body)))
-    (cond (kind == 3) (Ok seal) (Err OutOfOrder))
+    (cond (kind == 3) (Ok seal) (Err (Read OutOfOrder)))
 item_of (Running clock) kind body =
-    cond (kind == 4) (cond (nat_lt (arrival_of body).tick clock) (Err EarlyTick) (Ok (arrival (arrival_of body))))
-    (cond (kind == 5) (Ok end) (Err OutOfOrder))
-item_of Ended kind body = Err OutOfOrder
+    cond (kind == 4) (cond (nat_lt (arrival_of body).tick clock) (Err (Read EarlyTick)) (Ok (arrival (arrival_of body))))
+    (cond (kind == 5) (Ok end) (Err (Read OutOfOrder)))
+item_of Ended kind body = Err (Read OutOfOrder)
 
 -- in a file of n bytes: nothing may follow the end
 abbrev pub with_rest : ℕ → Item → List ℕ → Result (Item × List ℕ) Fault
@@ -53,7 +54,7 @@ with_rest n (share s) rest = Ok (share s, rest)
 with_rest n seal rest = Ok (seal, rest)
 with_rest n (arrival a) rest = Ok (arrival a, rest)
 with_rest n end [] = Ok (end, [])
-with_rest n end (b ∷ bs) = Err (fault_at (n - length (b ∷ bs)) AfterEnd)
+with_rest n end (b ∷ bs) = Err (fault_at (n - length (b ∷ bs)) (Read AfterEnd))
 
 abbrev pub placed : ℕ → Part → Result Item Cause → Result (Item × List ℕ) Fault
 placed n part (Err c) = Err (fault_at part.place c)

@@ -1,10 +1,12 @@
 -- A record at the front of the unread bytes of a file.
 use Rattle.std.specs.Prelude.{ℕ, ◌-◌, cond, List, [], ◌∷◌, length, take, drop, Some, None, Ok, Err, Option, Result, ◌==◌, nat_le, nat_lt}
 use Rattle.runfile.specs.declared.fault.Cause.{Cause}
-use Rattle.runfile.specs.declared.fault.Cause.TheVariants.{TooLong, UnknownKind, CutShort}
+use Rattle.runfile.specs.declared.fault.Cause.TheVariants.{Read}
+use Rattle.runfile.specs.declared.fault.ReadFault.TheVariants.{TooLong, UnknownKind, CutShort}
 use Rattle.runfile.specs.declared.fault.Fault.{Fault}
 use Rattle.runfile.specs.declared.record.Record.{Record}
-use Rattle.runfile.specs.declared.record.Record.TheVariants as kinds
+use Rattle.runfile.specs.declared.record.Kind.{Kind}
+use Rattle.runfile.specs.declared.record.Kind.TheVariants as kinds
 use Rattle.runfile.specs.declared.record.Rest.{Rest}
 
 -- a record, and the unread bytes behind it
@@ -28,32 +30,36 @@ fault_at p c = record { place = p; cause = c }
 
 -- a file has at most 65,536 bytes
 abbrev pub too_long : List ℕ → Option Fault
-too_long file = cond (nat_lt 65536 (length file)) (Some (fault_at 65536 TooLong)) None
+too_long file = cond (nat_lt 65536 (length file)) (Some (fault_at 65536 (Read TooLong))) None
 
 -- in a file of n bytes: a record of this kind at p, with a body of this length at the front of what follows
 abbrev pub part_of : ℕ → ℕ → ℕ → List ℕ → Option ℕ → Result Part Fault
-part_of n p k more None = Err (fault_at p UnknownKind)
+part_of n p k more None = Err (fault_at p (Read UnknownKind))
 part_of n p k more (Some size) =
     cond (nat_le size (length more))
     (Ok record { kind = k; place = p; body = take size more; rest = drop size more })
-    (Err (fault_at n CutShort))
+    (Err (fault_at n (Read CutShort)))
 
 -- in a file of n bytes: the record at the front of its unread bytes
 abbrev pub first_record : ℕ → List ℕ → Result Part Fault
-first_record n [] = Err (fault_at n CutShort)
+first_record n [] = Err (fault_at n (Read CutShort))
 first_record n (kind ∷ more) = part_of n (n - length (kind ∷ more)) kind more (body_length kind)
 
-abbrev pub place_of : Record → ℕ
-place_of (kinds.Head p b) = p
-place_of (kinds.Share p b) = p
-place_of (kinds.Seal p) = p
-place_of (kinds.Arrival p b) = p
-place_of (kinds.End p) = p
+-- the number and the body of a kind
+abbrev pub kind_number : Kind → ℕ
+kind_number (kinds.Head b) = 1
+kind_number (kinds.Share b) = 2
+kind_number kinds.Seal = 3
+kind_number (kinds.Arrival b) = 4
+kind_number kinds.End = 5
+
+abbrev pub body_in : Kind → List ℕ
+body_in (kinds.Head b) = b.now
+body_in (kinds.Share b) = b.now
+body_in kinds.Seal = []
+body_in (kinds.Arrival b) = b.now
+body_in kinds.End = []
 
 -- what the reader hands out, as such a part
 abbrev pub part_seen : Record → Rest → Part
-part_seen (kinds.Head p b) left = record { kind = 1; place = p; body = b.now; rest = left.bytes.now }
-part_seen (kinds.Share p b) left = record { kind = 2; place = p; body = b.now; rest = left.bytes.now }
-part_seen (kinds.Seal p) left = record { kind = 3; place = p; body = []; rest = left.bytes.now }
-part_seen (kinds.Arrival p b) left = record { kind = 4; place = p; body = b.now; rest = left.bytes.now }
-part_seen (kinds.End p) left = record { kind = 5; place = p; body = []; rest = left.bytes.now }
+part_seen r left = record { kind = kind_number r.kind; place = r.place; body = body_in r.kind; rest = left.bytes.now }

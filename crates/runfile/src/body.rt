@@ -1,24 +1,26 @@
 //! What the bodies of records say. Numbers are unsigned, higher byte first.
 ghost use Rattle.std.specs.Prelude.{◌≡◌};
-ghost use Rattle.runfile.specs.Bodies.{head_of, share_of, arrival_of};
+ghost use Rattle.runfile.specs.Bodies.{Finds, store_of, rule_of, head_of, share_of, arrival_of};
+
+use crate::fault::ReadFault;
 
 /// Where packets are kept.
-#[derive(Clone, Copy)]
+#[derive(Clone, Copy, PartialEq, Eq, Debug)]
 pub enum StoreKind {
-    Rings,
-    Pool,
+    Rings = 1,
+    Pool = 2,
 }
 
 /// How a choice among equal virtual finishes is made.
-#[derive(Clone, Copy)]
+#[derive(Clone, Copy, PartialEq, Eq, Debug)]
 pub enum RuleKind {
-    Lowest,
-    Turn,
-    Longest,
+    Lowest = 1,
+    Turn = 2,
+    Longest = 3,
 }
 
 /// The size of the switch, its store and its rule.
-#[derive(Clone, Copy)]
+#[derive(Clone, Copy, PartialEq, Eq, Debug)]
 pub struct Head {
     pub ports: u8,
     pub longest: u16,
@@ -28,7 +30,7 @@ pub struct Head {
 }
 
 /// A weight for a flow.
-#[derive(Clone, Copy)]
+#[derive(Clone, Copy, PartialEq, Eq, Debug)]
 pub struct Share {
     pub input: u8,
     pub output: u8,
@@ -36,7 +38,7 @@ pub struct Share {
 }
 
 /// A packet that arrives at a tick.
-#[derive(Clone, Copy)]
+#[derive(Clone, Copy, PartialEq, Eq, Debug)]
 pub struct Arrival {
     pub tick: u32,
     pub input: u8,
@@ -44,39 +46,61 @@ pub struct Arrival {
     pub length: u16,
 }
 
-impl Head {
-    /// The head in a body of seven bytes, or nothing if its store or its rule has no such value.
-    pub fn decode(body: &[u8; 7]) -> Option<Head>
-        ensures { result ≡ head_of body.now }
-    {
-        let [ports, l1, l0, w1, w0, store, rule] = *body;
-        let store = match store {
-            1 => StoreKind::Rings,
-            2 => StoreKind::Pool,
-            _ => return None,
-        };
-        let rule = match rule {
-            1 => RuleKind::Lowest,
-            2 => RuleKind::Turn,
-            3 => RuleKind::Longest,
-            _ => return None,
-        };
-        Some(Head {
+/// The store of this value.
+impl TryFrom<u8> for StoreKind {
+    type Error = ReadFault;
+
+    ghost try_from_gives = { λ k. Finds (store_of k) };
+
+    fn try_from(value: u8) -> Result<Self, ReadFault> {
+        match value {
+            1 => Ok(StoreKind::Rings),
+            2 => Ok(StoreKind::Pool),
+            _ => Err(ReadFault::UnknownChoice),
+        }
+    }
+}
+
+/// The rule of this value.
+impl TryFrom<u8> for RuleKind {
+    type Error = ReadFault;
+
+    ghost try_from_gives = { λ k. Finds (rule_of k) };
+
+    fn try_from(value: u8) -> Result<Self, ReadFault> {
+        match value {
+            1 => Ok(RuleKind::Lowest),
+            2 => Ok(RuleKind::Turn),
+            3 => Ok(RuleKind::Longest),
+            _ => Err(ReadFault::UnknownChoice),
+        }
+    }
+}
+
+/// The head in a body of seven bytes, or a refusal if its store or its rule has no such value.
+impl TryFrom<[u8; 7]> for Head {
+    type Error = ReadFault;
+
+    ghost try_from_gives = { λ body. Finds (head_of body) };
+
+    fn try_from(body: [u8; 7]) -> Result<Self, ReadFault> {
+        let [ports, l1, l0, w1, w0, store, rule] = body;
+        Ok(Head {
             ports,
             longest: u16::from_be_bytes([l1, l0]),
             parts: u16::from_be_bytes([w1, w0]),
-            store,
-            rule,
+            store: StoreKind::try_from(store)?,
+            rule: RuleKind::try_from(rule)?,
         })
     }
 }
 
-impl Share {
-    /// The share in a body of four bytes.
-    pub fn decode(body: &[u8; 4]) -> Share
-        ensures { result ≡ share_of body.now }
-    {
-        let [input, output, w1, w0] = *body;
+/// The share in a body of four bytes.
+impl From<[u8; 4]> for Share {
+    ghost from_gives = { λ body s. s ≡ share_of body };
+
+    fn from(body: [u8; 4]) -> Share {
+        let [input, output, w1, w0] = body;
         Share {
             input,
             output,
@@ -85,12 +109,12 @@ impl Share {
     }
 }
 
-impl Arrival {
-    /// The arrival in a body of seven bytes.
-    pub fn decode(body: &[u8; 7]) -> Arrival
-        ensures { result ≡ arrival_of body.now }
-    {
-        let [t2, t1, t0, input, output, l1, l0] = *body;
+/// The arrival in a body of seven bytes.
+impl From<[u8; 7]> for Arrival {
+    ghost from_gives = { λ body a. a ≡ arrival_of body };
+
+    fn from(body: [u8; 7]) -> Arrival {
+        let [t2, t1, t0, input, output, l1, l0] = body;
         Arrival {
             tick: u32::from_be_bytes([0, t2, t1, t0]),
             input,

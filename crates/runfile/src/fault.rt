@@ -1,26 +1,43 @@
 //! Why a run file is refused.
 ghost use Rattle.std.specs.Prelude.{◌≡◌};
-ghost use Rattle.runfile.specs.Numbers.{code};
+ghost use Rattle.runfile.specs.Numbers.{read_number, code};
+ghost use Rattle.runfile.specs.declared.fault.Cause.TheVariants as cause;
 
 use plan::{ArriveFault, ShareFault, SizeFault};
 
-/// A refusal of the reader, or one of the plan or the switch beneath it.
-#[derive(Clone, Copy)]
-pub enum Cause {
+/// A refusal of the reader.
+#[derive(Clone, Copy, PartialEq, Eq, Debug)]
+pub enum ReadFault {
     /// the file has more than 65,536 bytes
-    TooLong,
+    TooLong = 14,
     /// no record has this kind
-    UnknownKind,
+    UnknownKind = 15,
     /// the file ends inside a record, or before its end record
-    CutShort,
+    CutShort = 16,
     /// the record may not stand here
-    OutOfOrder,
+    OutOfOrder = 17,
     /// an arrival's tick lies before the clock
-    EarlyTick,
+    EarlyTick = 18,
     /// no store or no rule has this value
-    UnknownChoice,
+    UnknownChoice = 19,
     /// bytes follow the end record
-    AfterEnd,
+    AfterEnd = 20,
+}
+
+impl ReadFault {
+    /// The number of the refusal.
+    pub fn number(self) -> u8
+        ensures { result ≡ read_number self }
+    {
+        self as u8
+    }
+}
+
+/// A refusal of the reader, or one of the plan or the switch beneath it.
+#[derive(Clone, Copy, PartialEq, Eq, Debug)]
+pub enum Cause {
+    /// the reader refuses the file
+    Read(ReadFault),
     /// the plan refuses the size of the head
     Size(SizeFault),
     /// the plan refuses the share
@@ -29,11 +46,36 @@ pub enum Cause {
     Arrive(ArriveFault),
 }
 
-/// A refusal, and the place of the record or of the byte that it speaks of.
-#[derive(Clone, Copy)]
-pub struct Fault {
-    pub place: usize,
-    pub cause: Cause,
+impl From<ReadFault> for Cause {
+    ghost from_gives = { λ f c. c ≡ cause.Read f };
+
+    fn from(refusal: ReadFault) -> Cause {
+        Cause::Read(refusal)
+    }
+}
+
+impl From<SizeFault> for Cause {
+    ghost from_gives = { λ f c. c ≡ cause.Size f };
+
+    fn from(refusal: SizeFault) -> Cause {
+        Cause::Size(refusal)
+    }
+}
+
+impl From<ShareFault> for Cause {
+    ghost from_gives = { λ f c. c ≡ cause.Share f };
+
+    fn from(refusal: ShareFault) -> Cause {
+        Cause::Share(refusal)
+    }
+}
+
+impl From<ArriveFault> for Cause {
+    ghost from_gives = { λ f c. c ≡ cause.Arrive f };
+
+    fn from(refusal: ArriveFault) -> Cause {
+        Cause::Arrive(refusal)
+    }
 }
 
 impl Cause {
@@ -42,16 +84,30 @@ impl Cause {
         ensures { result ≡ code self }
     {
         match self {
-            Cause::TooLong => (1, 14),
-            Cause::UnknownKind => (1, 15),
-            Cause::CutShort => (1, 16),
-            Cause::OutOfOrder => (1, 17),
-            Cause::EarlyTick => (1, 18),
-            Cause::UnknownChoice => (1, 19),
-            Cause::AfterEnd => (1, 20),
+            Cause::Read(fault) => (1, fault.number()),
             Cause::Size(fault) => (2, fault.number()),
             Cause::Share(fault) => (2, fault.number()),
             Cause::Arrive(fault) => (3, fault.number()),
+        }
+    }
+}
+
+/// A refusal, and the place of the record or of the byte that it speaks of.
+#[derive(Clone, Copy, PartialEq, Eq, Debug)]
+pub struct Fault {
+    pub place: usize,
+    pub cause: Cause,
+}
+
+impl Fault {
+    /// The refusal at this place.
+    pub fn at<C: Into<Cause>>(place: usize, cause: C) -> Fault
+        ensures place { result.place ≡ place }
+        ensures cause { C.converts cause result.cause }
+    {
+        Fault {
+            place,
+            cause: cause.into(),
         }
     }
 }

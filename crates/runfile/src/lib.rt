@@ -7,6 +7,6 @@ mod order;
 mod record;
 
 pub use body::{Arrival, Head, RuleKind, Share, StoreKind};
-pub use fault::{Cause, Fault};
-pub use order::{Booking, Traffic, read_booking, read_head, read_traffic};
-pub use record::{Record, Rest, open, read_record};
+pub use fault::{Cause, Fault, ReadFault};
+pub use order::{read_booking, read_head, read_traffic};
+pub use record::{Kind, Record, Rest, open, read_record};

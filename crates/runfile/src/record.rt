@@ -3,16 +3,23 @@ ghost use Rattle.std.specs.Prelude.{◌≡◌, ◌-◌, length, Some, None, Ok, 
 ghost use Rattle.runfile.specs.File.{Library, Whole};
 ghost use Rattle.runfile.specs.Records.{first_record, part_seen, too_long};
 
-use crate::fault::{Cause, Fault};
+use crate::fault::{Fault, ReadFault};
 
-/// A record: its place in the file, and its body as a part of the file.
+/// A record: its place in the file, and what kind it is of.
 #[derive(Clone, Copy)]
-pub enum Record<'a> {
-    Head { place: usize, body: &'a [u8; 7] },
-    Share { place: usize, body: &'a [u8; 4] },
-    Seal { place: usize },
-    Arrival { place: usize, body: &'a [u8; 7] },
-    End { place: usize },
+pub struct Record<'a> {
+    pub place: usize,
+    pub kind: Kind<'a>,
+}
+
+/// The kind of a record, and its body as a part of the file.
+#[derive(Clone, Copy)]
+pub enum Kind<'a> {
+    Head(&'a [u8; 7]),
+    Share(&'a [u8; 4]),
+    Seal,
+    Arrival(&'a [u8; 7]),
+    End,
 }
 
 /// The unread part of a file, and the length of the whole file.
@@ -32,15 +39,13 @@ impl<'a> Rest<'a> {
 }
 
 /// The whole file unread, or a refusal if it is too long.
+#[tactic(auto, using(crate::proofs::Whole::whole_law))]
 pub fn open<'a>(file: &'a [u8]) -> Result<Rest<'a>, Fault>
     ensures answers { MatchResult result (λ rest. (too_long file.now ≡ None) × (rest.length ≡ length file.now) × (rest.bytes.now ≡ file.now)) (λ f. too_long file.now ≡ Some f) }
     ensures whole { (library : Library) → Whole library file.now }
 {
     if file.len() > 65536 {
-        return Err(Fault {
-            place: 65536,
-            cause: Cause::TooLong,
-        });
+        return Err(Fault::at(65536, ReadFault::TooLong));
     }
     Ok(Rest {
         length: file.len(),
@@ -54,43 +59,24 @@ pub fn read_record<'a>(rest: Rest<'a>) -> Result<(Record<'a>, Rest<'a>), Fault>
 {
     let length = rest.length;
     let place = rest.place();
-    let cut = Fault {
-        place: length,
-        cause: Cause::CutShort,
+    let cut = Fault::at(length, ReadFault::CutShort);
+    let (number, more) = rest.bytes.split_first().ok_or(cut)?;
+    let (kind, bytes) = match *number {
+        1 => {
+            let (body, bytes) = more.split_first_chunk().ok_or(cut)?;
+            (Kind::Head(body), bytes)
+        }
+        2 => {
+            let (body, bytes) = more.split_first_chunk().ok_or(cut)?;
+            (Kind::Share(body), bytes)
+        }
+        3 => (Kind::Seal, more),
+        4 => {
+            let (body, bytes) = more.split_first_chunk().ok_or(cut)?;
+            (Kind::Arrival(body), bytes)
+        }
+        5 => (Kind::End, more),
+        _ => return Err(Fault::at(place, ReadFault::UnknownKind)),
     };
-    let Some((kind, more)) = rest.bytes.split_first() else {
-        return Err(cut);
-    };
-    match *kind {
-        1 => match more.split_first_chunk::<7>() {
-            Some((body, bytes)) => Ok((Record::Head { place, body }, Rest { length, bytes })),
-            None => Err(cut),
-        },
-        2 => match more.split_first_chunk::<4>() {
-            Some((body, bytes)) => Ok((Record::Share { place, body }, Rest { length, bytes })),
-            None => Err(cut),
-        },
-        3 => Ok((
-            Record::Seal { place },
-            Rest {
-                length,
-                bytes: more,
-            },
-        )),
-        4 => match more.split_first_chunk::<7>() {
-            Some((body, bytes)) => Ok((Record::Arrival { place, body }, Rest { length, bytes })),
-            None => Err(cut),
-        },
-        5 => Ok((
-            Record::End { place },
-            Rest {
-                length,
-                bytes: more,
-            },
-        )),
-        _ => Err(Fault {
-            place,
-            cause: Cause::UnknownKind,
-        }),
-    }
+    Ok((Record { place, kind }, Rest { length, bytes }))
 }
