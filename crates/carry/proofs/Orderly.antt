@@ -14,7 +14,8 @@ use Rattle.law.specs.Step.{Plan}
 use Rattle.law.specs.Promises.{Bookable}
 use Rattle.replay.specs.Replay.{Arrival, last_tick, MayCome}
 use Rattle.runfile.specs.Records.{fault_at, too_long}
-use Rattle.runfile.specs.declared.fault.Cause.TheVariants.{TooLong}
+use Rattle.runfile.specs.declared.fault.Cause.TheVariants.{Read}
+use Rattle.runfile.specs.declared.fault.ReadFault.TheVariants.{TooLong}
 use Rattle.runfile.specs.Order.{Item, head, share, seal, arrival, end, Phase, Opening, Booking, Running, Ended, phase_after, next_item}
 use Rattle.runfile.specs.File.{phase_of, Reads, opened, more, AreBytes}
 use Rattle.runfile.specs.declared.body.Head.{Head}
@@ -87,7 +88,7 @@ pub record Orderly (file : List ℕ) (is : List Item) (rest : List ℕ) : Type 0
 not_too_long : (file : List ℕ) → too_long file ≡ None → length file ≤ 65536
 not_too_long file e = go (ltb 65536 (length file)) refl e
   where
-    go : (long : Bool) → ltb 65536 (length file) ≡ long → cond long (Some (fault_at 65536 TooLong)) None ≡ None → length file ≤ 65536
+    go : (long : Bool) → ltb 65536 (length file) ≡ long → cond long (Some (fault_at 65536 (Read TooLong))) None ≡ None → length file ≤ 65536
     go true l e = absurd (some≢none e)
     go false l e = ltb-false 65536 (length file) l
 

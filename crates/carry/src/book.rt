@@ -9,40 +9,31 @@ ghost use Rattle.carry.specs.Items.{refuses};
 ghost use Rattle.carry.specs.Booked.{Books, BooksAt, Refuses};
 
 use plan::{Plan, Size};
-use runfile::{Booking, Cause, Fault, Head, Rest, Share, open, read_booking, read_head};
+use runfile::{Fault, Head, Rest, Share, open, read_booking, read_head};
 
 // An empty plan of the head's size.
 fn open_plan(head: Head) -> Result<Plan, Fault>
     ensures { MatchResult result (λ p. (refuses [] (order.head head) ≡ None) × Books (order.head head ∷ []) p) (λ f. option_map (fault_at 0) (refuses [] (order.head head)) ≡ Some f) }
 {
-    match Size::new(
+    let size = Size::new(
         usize::from(head.ports),
         u32::from(head.longest),
         u32::from(head.parts),
-    ) {
-        Ok(size) => Ok(Plan::new(size)),
-        Err(fault) => Err(Fault {
-            place: 0,
-            cause: Cause::Size(fault),
-        }),
-    }
+    )
+    .map_err(|fault| Fault::at(0, fault))?;
+    Ok(Plan::new(size))
 }
 
 // Books the share of the record at this place.
 fn book_share(plan: &mut Plan, place: usize, share: Share) -> Result<(), Fault>
     ensures { (is : List Item) → Books is plan.old → MatchResult result (λ _. (refuses is (order.share share) ≡ None) × Books (order.share share ∷ is) plan.new) (λ f. option_map (fault_at place) (refuses is (order.share share)) ≡ Some f) }
 {
-    match plan.share(
+    plan.share(
         usize::from(share.input),
         usize::from(share.output),
         u32::from(share.weight),
-    ) {
-        Ok(()) => Ok(()),
-        Err(fault) => Err(Fault {
-            place,
-            cause: Cause::Share(fault),
-        }),
-    }
+    )
+    .map_err(|fault| Fault::at(place, fault))
 }
 
 // Books the shares of a file up to its seal, and answers what is left behind it.
@@ -51,13 +42,12 @@ fn book_shares<'a>(plan: &mut Plan, mut rest: Rest<'a>) -> Result<Rest<'a>, Faul
 {
     loop {
         let place = rest.place();
-        match read_booking(rest)? {
-            Booking::Share(share, left) => {
-                book_share(plan, place, share)?;
-                rest = left;
-            }
-            Booking::Seal(left) => return Ok(left),
-        }
+        let (share, left) = read_booking(rest)?;
+        let Some(share) = share else {
+            return Ok(left);
+        };
+        book_share(plan, place, share)?;
+        rest = left;
     }
 }
 

@@ -6,7 +6,7 @@ use crate::play::run_to;
 use crate::stop::Stop;
 use plan::ArriveFault;
 use player::{NamedRule, NamedStore, Player};
-use runfile::{Arrival, Cause, Fault, Rest, Traffic, read_traffic};
+use runfile::{Arrival, Fault, Rest, read_traffic};
 
 // An arrival, whose record stands at this place: the ticks up to its own, and what becomes of it.
 fn bring<S: NamedStore, R: NamedRule>(
@@ -17,23 +17,17 @@ fn bring<S: NamedStore, R: NamedRule>(
 ) -> Result<(), Stop>
     ensures { Brings S.NamedStore R.NamedRule player.old player.new place packet out.old out.new result }
 {
-    run_to(player, packet.tick as u64, out)?;
+    run_to(player, u64::from(packet.tick), out)?;
     let Err(fault) = player.arrive(
-        packet.input as usize,
-        packet.output as usize,
-        packet.length as u32,
+        usize::from(packet.input),
+        usize::from(packet.output),
+        u32::from(packet.length),
     ) else {
         return Ok(());
     };
     match fault {
-        ArriveFault::Full => {
-            push_turned_away(out, packet)?;
-            Ok(())
-        }
-        _ => Err(Stop::Refused(Fault {
-            place,
-            cause: Cause::Arrive(fault),
-        })),
+        ArriveFault::Full => Ok(push_turned_away(out, packet)?),
+        _ => Err(Stop::Refused(Fault::at(place, fault))),
     }
 }
 
@@ -46,15 +40,10 @@ pub fn play_arrivals<S: NamedStore, R: NamedRule>(
     ensures { Arrives S.NamedStore R.NamedRule player.old player.new rest.entry out.old out.new result }
 {
     let mut clock = 0;
-    loop {
-        let place = rest.place();
-        match read_traffic(rest, clock)? {
-            Traffic::Arrival(packet, left) => {
-                bring(player, place, packet, out)?;
-                clock = packet.tick;
-                rest = left;
-            }
-            Traffic::End => return Ok(()),
-        }
+    while let Some((packet, left)) = read_traffic(rest, clock)? {
+        bring(player, rest.place(), packet, out)?;
+        clock = packet.tick;
+        rest = left;
     }
+    Ok(())
 }
