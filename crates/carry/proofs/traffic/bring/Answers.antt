@@ -1,10 +1,10 @@
-use Rattle.std.proofs.Common.{◌≡◌, ◌≤◌, ℕ, true, false, vec_items, vec_capacity, Option, Some, Ok, Err, inl, inr, sym, ap, ◌∙◌, subst, arith}
+use Rattle.std.proofs.Common.{◌⊎◌, None, ◌≡◌, ◌≤◌, ℕ, true, false, vec_items, vec_capacity, Option, Some, Ok, Err, inl, inr, sym, ap, ◌∙◌, subst, arith}
 use Rattle.std.proofs.lemmas.Result.{err_from_is_err_and}
 use Rattle.std.specs.Option.{option_map}
 use Rattle.plan.specs.declared.fault.ArriveFault.{ArriveFault}
 use Rattle.plan.specs.declared.fault.TheConstants.{LAST_TICK}
 use Rattle.replay.specs.Events.{turned_away}
-use Rattle.replay.specs.Replay.{Arrival, run_to}
+use Rattle.replay.specs.Replay.{Arrival, offered, run_to}
 use Rattle.replay.proofs.Steps.{to_clock}
 use Rattle.player.specs.Plays.{Answers, kind_with}
 use Rattle.runfile.specs.Records.{fault_at}
@@ -14,8 +14,8 @@ use Rattle.carry.specs.Items.{arriving}
 use Rattle.carry.specs.Lines.{event_line}
 use Rattle.carry.specs.Lists.{Appends}
 use Rattle.carry.specs.Playing.{Tells}
-use Rattle.carry.specs.Traffic.{Brought}
-use Rattle.carry.specs.declared.stop.Stop.TheVariants.{Refused, Memory}
+use Rattle.carry.specs.Traffic.{refused_by, Brought}
+use Rattle.carry.specs.declared.stop.Stop.TheVariants.{Refused}
 use Rattle.carry.proofs.Brought.{clock_as_told, accepted, turned, unlawful, made_at}
 use Rattle.carry.proofs.traffic.bring.Goals as goal
 
@@ -87,7 +87,8 @@ returns-in_err-push_turned_away-in-Full g c plan first x before room at soon =
     turned g.S.Store.lists g.S.Store.size g.S.NamedStore.sign g.R.TieRule.answer g.R.NamedRule.next first plan y c.arrive.new.self told full clock
     before (vec_items out) (vec_items after) room (vec_capacity out) (vec_capacity after) false here.tells line in
     rw (p.1, p.2)
-    (subst (λ (a : Arrival). Brought g.S.Store.lists g.S.Store.size plan kind (run_to plan kind a.tick x) a c.arrive.new.self c.args.place before (vec_items after) room (vec_capacity after) (Err Memory)) is
+    (subst (λ (a : Arrival). Tells (run_to plan kind a.tick x) before (vec_items after) room (vec_capacity after) false
+    ⊎ ((refused_by plan a ≡ None) × Tells (offered plan kind a (run_to plan kind a.tick x)) before (vec_items after) room (vec_capacity after) false)) is
     (inr (away.0, away.1)))
 
 pub returns-in_default-fault : goal.returns-in_default-fault
