@@ -2,3 +2,4 @@
 pub mod Held
 pub mod Signs
 pub mod Plays
+pub mod Named

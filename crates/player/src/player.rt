@@ -28,14 +28,11 @@ fn bytes_in(departures: &[Departure]) -> u64
 }
 
 impl<S: NamedStore, R: NamedRule> Player<S, R> {
-    ghost use Rattle.law.specs.Plans.{plan_of};
-    ghost use Rattle.replay.specs.Replay.{at_start};
-    ghost use Rattle.player.specs.Plays.{Offers, Plays, Ticks, kind_with};
+    ghost use Rattle.player.specs.Named.{Begins, OffersTo, TicksOn};
 
-    // Each clause names five members of S and R: a definition cannot name the members of a bound for it.
     /// Seals a draft: the clock stands at 0, and nothing is inside.
     pub fn new(draft: Draft<S, R>) -> Player<S, R>
-        ensures { Plays S.Store.lists S.Store.size (plan_of draft.plan) (at_start (plan_of draft.plan) (kind_with S.NamedStore.sign R.TieRule.answer R.NamedRule.next draft.rule)) result }
+        ensures { Begins S.NamedStore R.NamedRule draft result }
     {
         Player {
             running: draft.seal(),
@@ -48,7 +45,7 @@ impl<S: NamedStore, R: NamedRule> Player<S, R> {
 
     /// One tick. At the clock's last tick the switch stays as it is, and nothing leaves.
     pub fn tick(&mut self)
-        ensures { Ticks S.Store.lists S.Store.size S.NamedStore.sign R.TieRule.answer R.NamedRule.next self.old self.new }
+        ensures { TicksOn S.NamedStore R.NamedRule self.old self.new }
     {
         let ports = self.running.plan().size.ports;
         let Ok(count) = self.running.step(&mut self.list[0..ports]) else {
@@ -62,7 +59,7 @@ impl<S: NamedStore, R: NamedRule> Player<S, R> {
 
     /// A packet comes to a flow at the present tick.
     pub fn arrive(&mut self, input: usize, output: usize, bytes: u32) -> Result<(), ArriveFault>
-        ensures { Offers S.Store.lists S.Store.size S.NamedStore.sign R.TieRule.answer R.NamedRule.next self.old self.new input output bytes result }
+        ensures { OffersTo S.NamedStore R.NamedRule self.old self.new input output bytes result }
     {
         self.running.arrive(input, output, bytes)?;
         self.inside = self.inside.wrapping_add(1);
