@@ -40,6 +40,7 @@ fn book_share(plan: &mut Plan, place: usize, share: Share) -> Result<(), Fault>
 fn book_shares<'a>(plan: &mut Plan, mut rest: Rest<'a>) -> Result<Rest<'a>, Fault>
     ensures { (file : List ℕ) (h : body.Head) → BooksAt Open file h plan.old rest.entry → MatchResult result (λ left. BooksAt (Running 0) file h plan.new left) (λ f. Refuses file f) }
 {
+    // no while let: what is left behind the seal is needed too
     loop {
         let place = rest.place();
         let (share, left) = read_booking(rest)?;

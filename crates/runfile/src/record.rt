@@ -61,6 +61,7 @@ pub fn read_record<'a>(rest: Rest<'a>) -> Result<(Record<'a>, Rest<'a>), Fault>
     let place = rest.place();
     let cut = Fault::at(length, ReadFault::CutShort);
     let (number, more) = rest.bytes.split_first().ok_or(cut)?;
+    // no enum of the numbers alone: each picks the length of its body too, so it would be matched twice
     let (kind, bytes) = match *number {
         1 => {
             let (body, bytes) = more.split_first_chunk().ok_or(cut)?;
