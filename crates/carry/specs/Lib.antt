@@ -1,5 +1,4 @@
 pub mod Items
-pub mod Named
 pub mod Lines
 pub mod Lists
 pub mod Listing

@@ -11,7 +11,7 @@ use Rattle.player.specs.Plays.{Plays}
 use Rattle.player.specs.declared.player.Player.{Player}
 use Rattle.carry.specs.Lines.{event_lines, peak_lines, last_line}
 use Rattle.carry.specs.Lists.{Appends}
-use Rattle.carry.specs.Named.{StoreOf, RuleOf, kind_of}
+use Rattle.player.specs.Named.{StoreOf, RuleOf, kind_of}
 
 -- what has happened in a replay is appended, or does not fit
 abbrev pub Tells : {K : Type 0} → Replayed K → (before after : List ℕ) → (room more : ℕ) → Bool → Type 0

@@ -23,7 +23,7 @@ use Rattle.carry.specs.Items.{head_in, plan_in, arriving, arrivals_in, refuses}
 use Rattle.carry.specs.Lines.{event_lines, refused_line}
 use Rattle.carry.specs.Listing.{items_in, listing_with}
 use Rattle.carry.specs.Lists.{Appends}
-use Rattle.carry.specs.Named.{StoreOf, RuleOf, kind_of}
+use Rattle.player.specs.Named.{StoreOf, RuleOf, kind_of}
 use Rattle.carry.specs.Booked.{Stands}
 use Rattle.carry.specs.Playing.{Tells, IsUpTo}
 

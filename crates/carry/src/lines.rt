@@ -49,6 +49,7 @@ pub fn push_refusal(out: &mut Vec<u8>, fault: Fault) -> Result<(), AllocError>
     ensures { Adds (refused_line fault) out.old out.new (is_ok result) }
 {
     let (layer, number) = fault.cause.code();
+    // the place widened by `as`: no number is made of a usize by From
     let line = Refusal {
         layer: u64::from(layer),
         number: u64::from(number),

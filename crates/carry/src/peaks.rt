@@ -29,6 +29,7 @@ fn push_flow<S: Store, R>(
     let Ok(report) = settled.report(i, j) else {
         unreachable()
     };
+    // widened by `as`: no number is made of a usize by From
     let line = Peak {
         input: i as u64,
         output: j as u64,

@@ -30,6 +30,7 @@ pub fn run_to<S: NamedStore, R: NamedRule>(
 ) -> Result<(), AllocError>
     ensures { PlaysOn S.NamedStore R.NamedRule (λ plan kind. run_to plan kind until) (λ _. until ≤ LAST_TICK) player.old player.new out.old out.new result }
 {
+    // ticks are counted, nothing is indexed: a chain would have to carry the player, the vector and the error along
     for _ in 0..until.saturating_sub(player.clock()) {
         tick(player, out)?;
     }
@@ -43,6 +44,7 @@ pub fn run_out<S: NamedStore, R: NamedRule>(
 ) -> Result<(), AllocError>
     ensures { PlaysOn S.NamedStore R.NamedRule (λ plan kind x. run_out plan kind (LAST_TICK - x.switch.clock) x) (λ _. Unit {0}) player.old player.new out.old out.new result }
 {
+    // as in `run_to`; and a `while` would need a measure where the range is one
     for _ in 0..LAST_TICK.saturating_sub(player.clock()) {
         if player.inside() == 0 {
             return Ok(());

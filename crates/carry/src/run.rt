@@ -3,7 +3,7 @@ ghost use Rattle.std.specs.Prelude.{◌≡◌, ℕ, List, take, is_ok, if◌then
 ghost use Rattle.carry.specs.Booked.{Lists};
 ghost use Rattle.carry.specs.Carries.{Carries, CarriesOn, Leaves, ListsBy};
 ghost use Rattle.carry.specs.Lists.{Adds};
-ghost use Rattle.carry.specs.Named.{kind_of};
+ghost use Rattle.player.specs.Named.{kind_of};
 ghost use Rattle.carry.specs.Traffic.{ListsAs};
 
 use crate::book::book;
@@ -80,7 +80,7 @@ fn take_back(
     listed: Result<(), AllocError>,
 ) -> Result<(), AllocError>
     ensures items { out.new.items ≡ (if is_ok listed then out.old.items else take before out.old.items) }
-    ensures answer { is_ok result ≡ is_ok listed }
+    ensures answer { result ≡ listed }
 {
     if listed.is_err() {
         out.truncate(before);

@@ -4,7 +4,8 @@
 ghost use Rattle.std.specs.Prelude.{◌≡◌, ◌+◌, ◌*◌, ◌<◌, true, false, MatchOption};
 ghost use Rattle.grid.specs.Flows.{in_grid};
 
-/// A flow of 16 × 16 ports: the input that its packets come by, and the output that they leave by.
+/// A flow of 16 × 16 ports: the input that its packets come by, and the output that they leave by. Public calls of the crates
+/// above take two plain numbers, of which a `Flow` would ask more.
 #[derive(Clone, Copy, PartialEq, Eq, Debug)]
 pub struct Flow {
     pub input: usize,

@@ -54,6 +54,7 @@ pub trait Line {
 impl Line for Departure {
     ghost text = { departure_text };
 
+    // a port is widened by `as`: no number is made of a usize by From
     fn write(&self, out: &mut [u8]) -> Result<usize, LineFault> {
         let fields = [
             self.tick,

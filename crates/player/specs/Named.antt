@@ -4,7 +4,7 @@ use Rattle.plan.specs.declared.fault.ArriveFault.{ArriveFault}
 use Rattle.store.specs.declared.packet.Packet.{Packet}
 use Rattle.law.specs.Plans.{plan_of}
 use Rattle.law.specs.Rules.{Rule}
-use Rattle.replay.specs.Kinds.{Sign}
+use Rattle.replay.specs.Kinds.{Sign, Kind}
 use Rattle.replay.specs.Replay.{at_start}
 use Rattle.switch.specs.declared.draft.Draft.{Draft}
 use Rattle.player.specs.declared.player.Player.{Player}
@@ -15,6 +15,10 @@ StoreOf S = record { lists : S → ℕ → ℕ → List Packet; full : S → ℕ
 
 abbrev pub RuleOf : Type 0 → Type 1
 RuleOf R = record { answer : R → Rule; told : R → ℕ → ℕ → R → Type 0; next : R → ℕ → ℕ → R }
+
+-- the kind of a run over such a store, by such a rule, which keeps this at first
+abbrev pub kind_of : {S R : Type 0} → StoreOf S → RuleOf R → R → Kind R
+kind_of store rule first = kind_with store.sign rule.answer rule.next first
 
 module _ {S R : Type 0} (store : StoreOf S) (rule : RuleOf R) where
   -- a player made of a draft is at the start of its replay

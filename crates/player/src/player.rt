@@ -48,6 +48,7 @@ impl<S: NamedStore, R: NamedRule> Player<S, R> {
         ensures { TicksOn S.NamedStore R.NamedRule self.old self.new }
     {
         let ports = self.running.plan().size.ports;
+        // no `?`: a refused step is no error here, and lists nothing
         let Ok(count) = self.running.step(&mut self.list[0..ports]) else {
             self.count = 0;
             return;

@@ -116,6 +116,7 @@ pub(crate) fn agrees<S: Store>(
     for _ in 0..2 {
         store.clear();
         plain.clear();
+        // a loop: each call goes on from the seed before, and may want memory
         for n in 0..calls {
             seed = next_seed(seed);
             all &= step(store, plain, call_from(seed), n)?;

@@ -50,7 +50,7 @@ impl<S: Store, R> Running<S, R> {
         })
     }
 
-    // What an input asks the rule.
+    // What an input asks the rule. An output's question is made of other rows by the same one call, so they stay two functions.
     fn question_across(&self, input: Port) -> Question
         ensures { result ≡ question_across (state_of S.Store.lists self.now) input.index }
     {
@@ -125,6 +125,7 @@ impl<S: Store, R: TieRule> Running<S, R> {
         ensures turns { Crossings R.TieRule.answer R.TieRule.told (state_of S.Store.lists self.old) self.old.rule self.old.plan.size.ports (state_of S.Store.lists self.new) self.new.rule }
         ensures size { S.Store.size self.new.store.store ≡ S.Store.size self.old.store.store }
     {
+        // a `for`: of a chain whose closure changes the switch no clause says what was changed
         for i in 0..self.plan.size.ports {
             self.cross(Port { index: i });
         }

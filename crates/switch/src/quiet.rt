@@ -36,7 +36,7 @@ impl<S: Store, R> Running<S, R> {
             .fold(best, |next, from| sooner(next, until, *from))
     }
 
-    // The same of all inputs.
+    // The same of all inputs. A fold for each side: one for both would take the search, and what it means, as parameters.
     fn next_at_inputs(&self, best: u64) -> u64
         ensures { result ≡ inputs_next (state_of S.Store.lists self.now) self.now.plan.size.ports best }
     {

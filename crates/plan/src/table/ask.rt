@@ -6,6 +6,7 @@ ghost use Rattle.plan.specs.Weights.{weight_of, has_flow};
 
 use crate::fault::PortFault;
 use crate::table::Plan;
+use grid::Flow;
 
 // How many of n inputs have a weight for output j.
 fn count_open(weights: &[u32; 256], n: usize, j: usize) -> usize
@@ -24,7 +25,7 @@ impl Plan {
         if input >= n || output >= n {
             return Err(PortFault::Port);
         }
-        Ok(16 * input + output)
+        Ok(Flow { input, output }.cell())
     }
 
     /// The weight of a flow.
