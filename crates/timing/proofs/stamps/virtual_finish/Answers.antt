@@ -1,16 +1,7 @@
 use Rattle.std.proofs.Common.{◌≡◌, ◌+◌, ◌*◌, ◌/◌, ◌%◌, ◌^◌, ◌<◌, ◌≤◌, sym, refl, ap, subst, mod-lt, mul-le-mul_left, arith}
-use Rattle.timing.proofs.Scaled.{finished, is_stamp_of, ticks_fit}
+use Rattle.timing.proofs.Scaled.{finished, is_stamp_of}
 use Rattle.timing.proofs.stamps.virtual_finish.Goals as goal
 use Rattle.timing.specs.Stamps.{Given, scaled, scaled_finish}
-
-pub overflow_add-ticks : goal.overflow_add-ticks
-overflow_add-ticks c =
-    let length = c.in_ok-ticks.ensures.1 in
-    let p : c.args.start.weight < 2 ^ 32 = omega arith in
-    let q : c.args.parts < 2 ^ 32 = omega arith in
-    let r : c.args.bytes < 2 ^ 32 = omega arith in
-    let d : (c.from.result + c.from-2.result) / c.from-weight.result ≡ (c.args.start.numerator + c.in_ok-ticks.part) / c.args.start.weight = cc in
-    omega (arith, ticks_fit c.args.start c.args.parts c.args.bytes _ _ (ap (λ p. p.0) length) (ap (λ p. p.1) length) p q r)
 
 pub returns-in_err-tick : goal.returns-in_err-tick
 returns-in_err-tick c =

@@ -1,4 +1,4 @@
-use Rattle.std.proofs.Common.{ℕ, ◌≤◌, sym, refl, subst, arith}
+use Rattle.std.proofs.Common.{ℕ, ◌≤◌, sym, subst, arith}
 use Rattle.plan.specs.Table.{row_sum, column_sum}
 use Rattle.grid.proofs.Sums.{sum_zero}
 use Rattle.grid.proofs.Flows.{flows_same}
@@ -11,5 +11,5 @@ invariant_of-result c =
     let high = λ (j : ℕ). subst (λ (f : ℕ → ℕ → ℕ). column_sum n f j ≤ c.args.size.parts) (sym (flows_same 0)) (omega (arith, sum_zero n)) in
     record { rows = λ i _. low i; columns = λ j _. high j }
 
-pub returns : goal.returns
-returns c = record { size = refl; weights = flows_same 0 }
+pub returns-clause-weights : goal.returns-clause-weights
+returns-clause-weights c = flows_same 0

@@ -1,4 +1,4 @@
-use Rattle.std.proofs.Common.{◌≡◌, ℕ, zero, suc, get_or, replicate, refl, rules}
+use Rattle.std.proofs.Common.{◌≡◌, ℕ, zero, suc, get_or, replicate, refl}
 use Rattle.tie.proofs.rules.Turn.new.Goals as goal
 
 zeros_at : (n k : ℕ) → ◌≡◌ {A = ℕ} (get_or (replicate n 0) k 0) 0
@@ -6,5 +6,5 @@ zeros_at zero k = refl
 zeros_at (suc n) zero = refl
 zeros_at (suc n) (suc k) = zeros_at n k
 
-pub returns : goal.returns
-returns c = record { value = search rules; each = zeros_at 32 }
+pub returns-clause-each : goal.returns-clause-each
+returns-clause-each c = zeros_at 32
