@@ -35,11 +35,6 @@ cells_set xs i x small hx hi k =
     (cases_eq k i)
 
 module _ (count : List ℕ) (from to : ℕ) (long : length count ≡ 257) (hf : from < 257) (ht : to < 257) (other : from ≡ to → ⊥) (some : 0 < get_or count from 0) where
-  -- the counts as the code writes them
-  pub counts_are : set (set count from (get_or count from 0 - 1)) to (get_or (set count from (get_or count from 0 - 1)) to 0 + 1) ≡ counts_after count from to
-  counts_are =
-      ap (λ (n : ℕ). set (set count from (get_or count from 0 - 1)) to (n + 1)) (count_before count from to other)
-
   pub count_other : (q : ℕ) → (q ≡ from → ⊥) → (q ≡ to → ⊥) → get_or (counts_after count from to) q 0 ≡ get_or count q 0
   count_other q ne nf =
       get_or-set_other (set count from (get_or count from 0 - 1)) to q (get_or count to 0 + 1) 0 nf

@@ -55,9 +55,3 @@ left_of_flow i j [] = refl
 left_of_flow i j ((call, answer) ∷ log) =
     ap (filter (of_flow i j)) (left_more call answer log) ∙ filter-append (of_flow i j) (left_in log) (listed_by answer)
     ∙ (λ k. left_of_flow i j log k ++ kept_by i j answer k)
-
--- what a step of a run lists is what leaves in its tick
-pub listed_leaves : (plan : Plan) (M : ℕ) → Bookable plan → (room : ℕ) (ds : List Departure) (log : List (Call × Answer)) (next : Switch) →
-    Run plan M ((step room, listed ds) ∷ log) next → ds ≡ leaves plan next (clock_of log) (clock_of log + 1)
-listed_leaves plan M bookable room ds log next (ticks {s = s} r cross send d e st) =
-    ap (λ t. leaves plan (after_tick plan s cross send) t (t + 1)) (sym (moment plan M bookable d).clock_told)

@@ -11,11 +11,7 @@ module _ {K : Type 0} (plan : Plan) (kind : Kind K) where
   unfolding run_ticks
   ticks_none x = refl
 
-  -- one tick before, and one after
-  pub ticks_first : (n : ℕ) (x : Replayed K) → run_ticks plan kind (n + 1) x ≡ run_ticks plan kind n (run_tick plan kind x)
-  unfolding run_ticks
-  ticks_first n x = ap (λ m. run_ticks plan kind m x) (add-one n)
-
+  -- one tick more
   pub ticks_last : (n : ℕ) (x : Replayed K) → run_ticks plan kind (n + 1) x ≡ run_tick plan kind (run_ticks plan kind n x)
   unfolding run_ticks
   ticks_last zero x = refl

@@ -1,9 +1,8 @@
 -- A weight and a scaled value determine the stamp.
-use Rattle.std.proofs.Common.{◌≡◌, ℕ, ◌+◌, ◌*◌, ◌/◌, ◌%◌, ◌^◌, ◌<◌, ◌≤◌, max, Bool, true, false, cond, Some, Option, refl, sym, ap, ◌∙◌, subst, mod-lt, mul_comm, div-le_self, arith}
+use Rattle.std.proofs.Common.{◌≡◌, ℕ, ◌+◌, ◌*◌, ◌/◌, ◌%◌, ◌<◌, ◌≤◌, max, Bool, true, false, cond, Some, Option, refl, sym, ap, ◌∙◌, subst, mul_comm, arith}
 use native.Mathlib.Nat.{div-add-mod}
 use lib.Arith.{digits_div, digits_mod}
 use Rattle.std.proofs.lemmas.Bool.{ltb-false, ltb-true}
-use Rattle.std.proofs.lemmas.Nat.{mul-le}
 use Rattle.std.proofs.Math.Nat.{le_of_mul-le-mul_right, lt_of_mul-lt-mul_right}
 use Rattle.std.specs.Ordering.{ord_max}
 use Rattle.timing.specs.Order.{earlier_is_before}
@@ -55,11 +54,3 @@ module _ (s : Stamp) (W b q m : ℕ) (whole : q ≡ b * W / s.weight) (rest : m 
   finished =
       let w = s.weight in
       omega (arith, ap (λ n. w * n) whole, div-add-mod (b * W) w, div-add-mod (s.numerator + m) w)
-
-  pub ticks_fit : s.weight < 2 ^ 32 → W < 2 ^ 32 → b < 2 ^ 32 → q + (s.numerator + m) / s.weight < 2 ^ 64
-  ticks_fit x y z =
-      let w = s.weight in
-      let p : W ≤ 4294967295 = omega arith in
-      let o : b ≤ 4294967295 = omega arith in
-      let k : 0 < w = omega (arith, s.below) in
-      omega (arith, s.below, mul-le b W 4294967295 4294967295 o p, div-le_self (b * W) w, div-le_self (s.numerator + m) w, mod-lt (b * W) k)
