@@ -1,5 +1,5 @@
 -- Writes of one ring, and no packets at all. Assumes nothing.
-use Rattle.std.proofs.Common.{◌≡◌, ℕ, zero, suc, ◌+◌, ◌*◌, ◌<◌, ◌≤◌, Bool, true, false, cond, List, [], ◌∷◌, length, get_or, set, refl, ap, ◌∙◌, ⊎_elim, arith}
+use Rattle.std.proofs.Common.{◌≡◌, ℕ, zero, suc, ◌+◌, ◌*◌, ◌<◌, ◌≤◌, Bool, true, false, cond, List, [], ◌∷◌, length, get_or, set, sym, refl, ap, ◌∙◌, ⊎_elim, arith}
 use mathlib.Core.Path.{fun_ext}
 use Rattle.std.proofs.lemmas.Bool.{cases_lt, cond_both}
 use Rattle.std.proofs.lemmas.List.{get_or_past}
@@ -13,6 +13,12 @@ use Rattle.rings.specs.Held.{empty, lists_in, AtMostTwo}
 -- the lists of a table of rings
 abbrev lists_of : (ℕ → ℕ → ArrayVec Packet) → ℕ → ℕ → List Packet
 lists_of table i j = (table i j).items
+
+-- the start of the k-th packet is a write of it
+noted_set : (k t : ℕ) (ps : List Packet) (d : Packet) → k < length ps → set ps k (started_across t (get_or ps k d)) ≡ noted k t ps
+noted_set k t [] d h = absurd (omega arith)
+noted_set zero t (p ∷ ps) d h = refl
+noted_set (suc k) t (p ∷ ps) d h = ap (λ (qs : List Packet). p ∷ qs) (noted_set k t ps d (omega arith))
 
 module _ (rings : List (ArrayVec Packet)) (i j cell : ℕ) (inside : in_grid i j ≡ true) (at : cell ≡ 16 * i + j) (long : length rings ≡ 256) where
   pub ring_at : (d : ArrayVec Packet) → lists_in rings i j ≡ (get_or rings cell d).items
@@ -29,11 +35,14 @@ module _ (rings : List (ArrayVec Packet)) (i j cell : ℕ) (inside : in_grid i j
       ring_set ring ∙ ap (with_flow (lists_in rings) i j) is
       ∙ elim granted as (λ g. with_flow (lists_in rings) i j (cond g items (lists_in rings i j)) ≡ cond g (with_flow (lists_in rings) i j items) (lists_in rings)) [ true ↦ refl | false ↦ with_flow_same (lists_in rings) i j ]
 
--- the start of the k-th packet is a write of it
-pub noted_set : (k t : ℕ) (ps : List Packet) (d : Packet) → k < length ps → noted k t ps ≡ set ps k (started_across t (get_or ps k d))
-noted_set k t [] d h = absurd (omega arith)
-noted_set zero t (p ∷ ps) d h = refl
-noted_set (suc k) t (p ∷ ps) d h = ap (λ (qs : List Packet). p ∷ qs) (noted_set k t ps d (omega arith))
+  -- a write of the start of the k-th packet of the ring
+  pub ring_noted : (k t : ℕ) (d : ArrayVec Packet) (p after : Packet) → k < length (get_or rings cell d).items → p ≡ get_or (get_or rings cell d).items k p → after ≡ started_across t p →
+      lists_in (set rings cell record { items = set (get_or rings cell d).items k after }) ≡ with_flow (lists_in rings) i j (noted k t (lists_in rings i j))
+  ring_noted k t d p after few was is =
+      let ps = (get_or rings cell d).items in
+      ring_set _
+      ∙ ap (with_flow (lists_in rings) i j)
+      (ap (set ps k) (is ∙ ap (started_across t) was) ∙ noted_set k t ps p few ∙ ap (noted k t) (sym (ring_at d)))
 
 -- 256 rings with no packet
 module _ (rings : List (ArrayVec Packet)) (none : (k : ℕ) → k < 256 → (get_or rings k empty).items ≡ []) (long : length rings ≡ 256) where
