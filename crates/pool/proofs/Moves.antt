@@ -3,7 +3,7 @@ use Rattle.std.proofs.Common.{◌≡◌, ℕ, zero, suc, ◌+◌, ◌<◌, ◌�
 use Rattle.std.proofs.lemmas.Bool.{cases_eq, cases_lt, eq-eqb, ne_eqb}
 use Rattle.std.proofs.lemmas.Bool.Decides.{nat_tests}
 use Rattle.pool.specs.Queues.{walk, cell_in, OneQueue, OnePlace, Ended}
-use Rattle.pool.proofs.Walks.{walk_none, walk_more, less_one}
+use Rattle.pool.proofs.Walks.{walk_more, less_one}
 
 -- no cell stands at two places
 abbrev pub Apart : (next first count : List ℕ) → Type 0
@@ -136,6 +136,7 @@ module _ (next first last count next' first' last' count' : List ℕ) (from to :
         origin_once from to n p q j k m.other e.0 e.1
 
     pub moved_ended : Ended next' first' last' count'
+    unfolding walk
     moved_ended q k h =
         ⊎_elim
         (λ (is-from : q ≡ from).
@@ -147,8 +148,7 @@ module _ (next first last count next' first' last' count' : List ℕ) (from to :
         (λ (is-to : q ≡ to).
         let long = ap (λ (p : ℕ). get_or count' p 0) is-to in
         let end : k ≡ get_or count to 0 = omega arith in
-        ap (λ (p : ℕ). cell_in next' first' p k) is-to ∙ ap (cell_in next' first' to) end ∙ cell_came ∙ walk_none next (get_or first from 0)
-        ∙ sym m.last_to ∙ ap (λ (p : ℕ). get_or last' p 0) (sym is-to))
+        ap (λ (p : ℕ). cell_in next' first' p k) is-to ∙ ap (cell_in next' first' to) end ∙ cell_came ∙ sym m.last_to ∙ ap (λ (p : ℕ). get_or last' p 0) (sym is-to))
         (λ (not-to : q ≡ to → ⊥).
         let long = m.count_other q not-from not-to in
         cells_kept q k not-from (omega arith) ∙ ended q k (omega arith) ∙ sym (m.last_other q not-to))

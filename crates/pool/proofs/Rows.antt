@@ -1,13 +1,14 @@
 -- Laws of the packets of cells in a row. Assumes nothing.
 use Rattle.std.proofs.Common.{◌≡◌, ℕ, zero, suc, ◌+◌, ◌<◌, true, List, [], ◌∷◌, ◌++◌, length, drop, is_some, Some, None, Option, sym, refl, ap, ◌∙◌, append_assoc, append-nil, add-one, arith}
 use Rattle.std.specs.List.{slice_get}
+use Rattle.std.proofs.lemmas.Bool.{true≢false}
 use Rattle.store.specs.declared.packet.Packet.{Packet}
 use Rattle.store.specs.Stored.{noted, started_across}
 use Rattle.pool.specs.Held.{packets_of, packets_below}
 
 pub some_of : {X : Type 0} (o : Option X) → is_some o ≡ true → (x : X) × (o ≡ Some x)
 some_of (Some x) h = (x, refl)
-some_of None h = absurd (let z : ◌≡◌ {A = ℕ} 0 1 = cc in omega arith)
+some_of None h = absurd (true≢false (sym h))
 
 -- the list of a row that begins with the packet p
 below_first : (n : ℕ) (f : ℕ → Option Packet) (p : Packet) → f 0 ≡ Some p → packets_below (suc n) f ≡ p ∷ packets_below n (λ k. f (suc k))

@@ -1,10 +1,6 @@
 -- Laws of walks along links. Assumes nothing.
-use Rattle.std.proofs.Common.{◌≡◌, ℕ, zero, suc, ◌+◌, ◌<◌, List, get_or, refl, add-one, arith}
+use Rattle.std.proofs.Common.{◌≡◌, ℕ, zero, suc, ◌+◌, ◌<◌, List, get_or, add-one, arith}
 use Rattle.pool.specs.Queues.{walk}
-
-pub walk_none : (next : List ℕ) (c : ℕ) → walk next c 0 ≡ c
-unfolding walk
-walk_none next c = refl
 
 pub walk_more : (next : List ℕ) (c k : ℕ) → walk next c (k + 1) ≡ get_or next (walk next c k) 0
 unfolding walk

@@ -1,14 +1,14 @@
 use Rattle.std.proofs.Common.{ℕ, get_or, sym, ap, ◌∙◌, arith}
-use Rattle.pool.specs.Queues.{first_cells}
+use Rattle.pool.specs.Queues.{first_cells, walk}
 use Rattle.pool.proofs.Parts.{first_at}
-use Rattle.pool.proofs.Walks.{walk_none, walk_more}
+use Rattle.pool.proofs.Walks.{walk_more}
 use Rattle.pool.proofs.links.Links.at.Goals as goal
 
 pub loop-init : goal.loop-init
+unfolding walk
 loop-init c =
     let links = c.args.self.now in
-    let first = first_at links.queues c.args.queue in
-    (sym first ∙ sym (walk_none links.next (get_or (first_cells links.queues) c.args.queue 0)), omega (arith, first, links.firsts c.args.queue))
+    let first = first_at links.queues c.args.queue in (sym first, omega (arith, first, links.firsts c.args.queue))
 
 pub loop-preserved : goal.loop-preserved
 loop-preserved c =
