@@ -2,6 +2,8 @@
 ghost use Rattle.std.specs.Prelude.{◌≡◌, ◌-◌, ◌<◌, not, map};
 ghost use Rattle.switch.specs.Calls.{Keeps, state_of};
 ghost use Rattle.state.specs.Lines.{busy_at};
+ghost use Rattle.timing.specs.Stamps.{earlier};
+ghost use Rattle.timing.specs.Marks.{tied};
 ghost use Rattle.law.specs.Rules.{asked};
 ghost use Rattle.tie.specs.declared.question.Question.{Question};
 ghost use Rattle.state.specs.Crosses.{mark_across, marks_across, waits_across, question_across, next_across, crossed_with, Crosses, Crossings};
@@ -16,6 +18,16 @@ use state::{Busy, Ledger};
 use store::{Packet, Store};
 use tie::{Question, TieRule};
 use timing::{Stamp, choose};
+
+// What a line asks the rule: which of its soonest marks are tied, and how many bytes wait.
+pub(crate) fn question(marks: [Option<Stamp>; 16], waiting: [u64; 16]) -> Question
+    ensures { (result.tied ≡ tied earlier marks) × (result.waiting ≡ waiting) }
+{
+    Question {
+        tied: choose(&marks),
+        waiting,
+    }
+}
 
 impl<S: Store, R> Running<S, R> {
     // The oldest packet of a flow that has not started across.
@@ -50,15 +62,11 @@ impl<S: Store, R> Running<S, R> {
         })
     }
 
-    // What an input asks the rule. An output's question is made of other rows by the same one call, so they stay two functions.
+    // What an input asks the rule.
     fn question_across(&self, input: Port) -> Question
         ensures { result ≡ question_across (state_of S.Store.lists self.now) input.index }
     {
-        let marks = self.marks_across(input);
-        Question {
-            tied: choose(&marks),
-            waiting: self.waits_across(input),
-        }
+        question(self.marks_across(input), self.waits_across(input))
     }
 
     // Starts the oldest packet of a flow that has not started across, if there is one.

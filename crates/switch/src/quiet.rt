@@ -4,7 +4,7 @@ ghost use Rattle.switch.specs.Calls.{PassesQuiet, state_of};
 ghost use Rattle.state.specs.Quiet.{sooner_of, input_next, inputs_next, column_next, output_next, outputs_next, next_event, at_tick, StillFor, QuietSteps, Passes};
 
 use crate::lines::{is_busy, until_of};
-use crate::port::{Port, by_port};
+use crate::port::{Port, fold_ports};
 use crate::ready::{across_from, out_from};
 use crate::running::Running;
 use plan::LAST_TICK;
@@ -31,20 +31,21 @@ impl<S: Store, R> Running<S, R> {
         ensures { result ≡ input_next (state_of S.Store.lists self.now) input.index 16 best }
     {
         let until = until_of(self.crossing[input.index]);
-        by_port(|output| across_from(self.next_across(input.to(output))))
-            .iter()
-            .fold(best, |next, from| sooner(next, until, *from))
+        fold_ports(
+            16,
+            best,
+            |next, output| sooner(next, until, across_from(self.next_across(input.to(output)))),
+        )
     }
 
-    // The same of all inputs. A fold for each side: one for both would take the search, and what it means, as parameters.
+    // The same of all inputs.
     fn next_at_inputs(&self, best: u64) -> u64
         ensures { result ≡ inputs_next (state_of S.Store.lists self.now) self.now.plan.size.ports best }
     {
-        (0..self.plan.size.ports).fold(
+        fold_ports(
+            self.plan.size.ports,
             best,
-            |next, index|
-                requires { index < 16 }
-            { self.next_at_input(Port { index }, next) },
+            |next, input| self.next_at_input(input, next),
         )
     }
 
@@ -53,9 +54,11 @@ impl<S: Store, R> Running<S, R> {
         ensures { result ≡ column_next (state_of S.Store.lists self.now) output.index 16 best }
     {
         let longest = self.plan.size.longest;
-        by_port(|input| out_from(self.next_out(input.to(output)), longest))
-            .iter()
-            .fold(best, |next, from| sooner(next, 0, *from))
+        fold_ports(
+            16,
+            best,
+            |next, input| sooner(next, 0, out_from(self.next_out(input.to(output)), longest)),
+        )
     }
 
     // The same, or while the output is busy the tick whose step lets its packet leave.
@@ -73,11 +76,10 @@ impl<S: Store, R> Running<S, R> {
     fn next_at_outputs(&self, best: u64) -> u64
         ensures { result ≡ outputs_next (state_of S.Store.lists self.now) self.now.plan.size.ports best }
     {
-        (0..self.plan.size.ports).fold(
+        fold_ports(
+            self.plan.size.ports,
             best,
-            |next, index|
-                requires { index < 16 }
-            { self.next_at_output(Port { index }, next) },
+            |next, output| self.next_at_output(output, next),
         )
     }
 }

@@ -4,6 +4,7 @@ ghost use Rattle.switch.specs.Calls.{state_of};
 ghost use Rattle.state.specs.Sends.{mark_out, marks_out, crossing_bytes, waits_out, question_out, next_out, departure_of, sent_with, Sends, Sendings, Stepped, ticked};
 ghost use Rattle.state.specs.Steps.{StepsSo};
 
+use crate::cross::question;
 use crate::flow::{bytes_in, ledger_at};
 use crate::lines::carries;
 use crate::port::{Port, by_port};
@@ -15,7 +16,7 @@ use plan::{LAST_TICK, StepFault};
 use state::Busy;
 use store::{Packet, Store};
 use tie::{Question, TieRule};
-use timing::{Stamp, choose};
+use timing::Stamp;
 
 // The departure of a packet that starts out at a tick.
 fn departure_of(packet: Packet, flow: Flow, tick: u64) -> Departure
@@ -89,11 +90,7 @@ impl<S: Store, R> Running<S, R> {
     fn question_out(&self, output: Port) -> Question
         ensures { result ≡ question_out (state_of S.Store.lists self.now) output.index }
     {
-        let marks = self.marks_out(output);
-        Question {
-            tied: choose(&marks),
-            waiting: self.waits_out(output),
-        }
+        question(self.marks_out(output), self.waits_out(output))
     }
 
     // Starts the oldest packet of a flow on its output, if there is one. It stays stored until it has left.

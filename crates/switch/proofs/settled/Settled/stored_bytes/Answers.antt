@@ -1,7 +1,8 @@
 use Rattle.std.proofs.Common.{◌≡◌, ◌+◌, ◌-◌, ◌^◌, ◌<◌, fold, take, take_all, sym, ap, ◌∙◌, subst, rules, arith}
-use Rattle.std.specs.List.{slice_get}
+use Rattle.std.specs.List.{slice_get, range_with_len}
 use Rattle.std.proofs.lemmas.Iterator.{YieldsList-from_range}
 use Rattle.std.proofs.lemmas.Iterator.Adapters.{fits_from_length, at_most_from_yields_List}
+use Rattle.std.proofs.lemmas.List.Folds.{fold-map}
 use Rattle.std.proofs.lemmas.List.FromFn.{length-range_with_len}
 use Rattle.state.specs.Reports.{lengths}
 use Rattle.state.specs.State.{bytes_in}
@@ -22,7 +23,8 @@ returns-clause-value g c =
     let n = c.count.result in
     let ran = c.sum.ensures.ran in
     ran.2 ∙ ap (fold (λ t x. t + x) 0) (mapped _ (λ k. bytes_in (slice_get list k)) n c.map.result ran.0 (ran.1 tt) c.map.ensures.source c.map.ensures.closure (λ x r q k. search rules))
-    ∙ counted (λ t x. t + x) (λ k. bytes_in (slice_get list k)) (λ k. lengths (take k list)) (lengths_more list) n
+    ∙ fold-map (λ t x. t + x) (λ k. bytes_in (slice_get list k)) 0 (range_with_len 0 n)
+    ∙ counted (λ t k. t + bytes_in (slice_get list k)) (λ k. lengths (take k list)) (lengths_more list) n
     ∙ ap lengths (take_all n list (omega arith))
 
 pub returns-clause-bound : goal.returns-clause-bound
