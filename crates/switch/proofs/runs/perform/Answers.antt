@@ -1,7 +1,7 @@
 use Rattle.std.proofs.Common.{◌≡◌, ◌+◌, cond, true, List, ◌∷◌, [], ◌++◌, take, get_or, sym, refl, ap, ◌∙◌, subst, arith}
 use Rattle.std.specs.Vec.{vec_len}
 use Rattle.std.specs.Result.{is_ok}
-use Rattle.std.proofs.lemmas.List.{take_all, take_more}
+use Rattle.std.proofs.lemmas.List.{take_more}
 use Rattle.state.specs.declared.call.Call.{Call}
 use Rattle.state.specs.declared.call.Answer.{Answer}
 use Rattle.state.specs.Performs.{Performs, Obeys}
@@ -39,9 +39,3 @@ loop-call-preserved g c =
       counted,
       omega (arith, i.3, c.push.ensures.capacity),
     )
-
-pub returns-clause-performed : goal.returns-clause-performed
-returns-clause-performed g c =
-    let st = state_of g.S.Store.lists c.loop-call.running in
-    subst (λ M. Performs M c.args.draft.plan st c.args.calls.now c.loop-call.answers.items) c.seal-running.ensures.stated_size
-    (subst (λ (cs : List Call). Performs (g.S.Store.size c.seal-running.result.store.store) c.args.draft.plan st cs c.loop-call.answers.items) (take_all c.loop-call.call-index c.args.calls.now c.loop-call-test.false) c.loop-call.invariant.0)

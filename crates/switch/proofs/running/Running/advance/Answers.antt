@@ -16,8 +16,8 @@ finish_all-requires g c =
     let b = sendings_keep g.R.TieRule.answer g.R.TieRule.told c.send_all.ensures.turns in
     subst (λ (p : kit.Plan). p.size.ports ≤ length c.args.out.now) (sym (b.0 ∙ a.0)) (omega arith)
 
-pub returns : goal.returns
-returns g c =
+pub returns-clause-step : goal.returns-clause-step
+returns-clause-step g c =
     let s = c.args.self.now in
     let mid = c.cross_all.new.self in
     let sent = c.send_all.new.self in
@@ -29,24 +29,20 @@ returns g c =
     let f = c.finish_all.ensures in
     let N = sent.plan.size.ports in
     let tick = timed sent-st early in
-    record {
-      step = (
-        step_grants s.plan.size.ports (length c.args.out.now) s.clock (omega arith) (omega arith),
-        (
-          listed_to N (wrapped sent-st),
-          record {
-            crossed = shown (g.S.Store.lists mid.store.store) mid;
-            between = mid.rule;
-            sent = sent-st;
-            inputs = c.cross_all.ensures.turns;
-            outputs = subst (Sendings g.R.TieRule.answer g.R.TieRule.told (shown (g.S.Store.lists mid.store.store) mid) mid.rule mid.plan.size.ports sent-st) (sym f.kept.rule_kept) c.send_all.ensures.turns;
-            state = f.state ∙ ap (finish_to N) tick;
-            leaves = ap (listed_to N) tick;
-          },
-          f.answer,
-          f.list,
-        ),
-      );
-      refused = tt;
-      size = f.kept.size_kept ∙ ap (λ x. g.S.Store.size x.store) c.send_all.ensures.store ∙ c.cross_all.ensures.size;
-    }
+    (
+      step_grants s.plan.size.ports (length c.args.out.now) s.clock (omega arith) (omega arith),
+      (
+        listed_to N (wrapped sent-st),
+        record {
+          crossed = shown (g.S.Store.lists mid.store.store) mid;
+          between = mid.rule;
+          sent = sent-st;
+          inputs = c.cross_all.ensures.turns;
+          outputs = subst (Sendings g.R.TieRule.answer g.R.TieRule.told (shown (g.S.Store.lists mid.store.store) mid) mid.rule mid.plan.size.ports sent-st) (sym f.kept.rule_kept) c.send_all.ensures.turns;
+          state = f.state ∙ ap (finish_to N) tick;
+          leaves = ap (listed_to N) tick;
+        },
+        f.answer,
+        f.list,
+      ),
+    )
