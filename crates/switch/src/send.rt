@@ -130,7 +130,7 @@ impl<S: Store, R: TieRule> Running<S, R> {
         ensures turns { Sendings R.TieRule.answer R.TieRule.told (state_of S.Store.lists self.old) self.old.rule self.old.plan.size.ports (state_of S.Store.lists self.new) self.new.rule }
         ensures store { self.new.store ≡ self.old.store }
     {
-        // a `for`, as in `cross_all`: it calls another turn, of another type's clause, and shares nothing else
+        // a `for`, for the reason given in `cross_all`
         for j in 0..self.plan.size.ports {
             self.send(Port { index: j });
         }

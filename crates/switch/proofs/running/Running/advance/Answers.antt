@@ -28,8 +28,7 @@ returns-clause-step g c =
     let early : sent.clock ≤ LAST_TICK = omega (arith, b.1 ∙ a.1) in
     let f = c.finish_all.ensures in
     let N = sent.plan.size.ports in
-    let tick = timed sent-st early in
-    (
+    let tick = timed sent-st early in (
       step_grants s.plan.size.ports (length c.args.out.now) s.clock (omega arith) (omega arith),
       (
         listed_to N (wrapped sent-st),

@@ -1,4 +1,4 @@
-use Rattle.std.proofs.Common.{◌∙◌, rules}
+use Rattle.std.proofs.Common.{ℕ, ◌∙◌, rules}
 use Rattle.switch.specs.Calls.{state_of}
 use Rattle.state.specs.Lines.{until_of}
 use Rattle.state.specs.Ready.{across_from}
@@ -13,5 +13,6 @@ unfolding input_next
 returns g c =
     let st = state_of g.S.Store.lists c.args.self.now in
     let i = c.args.input.index in
-    c.fold_ports.ensures (λ next j. sooner_of next (until_of (st.crossing i)) (across_from (next_across st i j))) (λ next port r k. search rules)
-    ∙ counted (λ next j. sooner_of next (until_of (st.crossing i)) (across_from (next_across st i j))) (λ n. input_next st i n c.args.best) (λ k. input_more st i k c.args.best) 16
+    let h : ℕ → ℕ → ℕ = λ next j. sooner_of next (until_of (st.crossing i)) (across_from (next_across st i j)) in
+    c.fold_ports.ensures h (λ next port r k. search rules)
+    ∙ counted h (λ n. input_next st i n c.args.best) (λ k. input_more st i k c.args.best) 16

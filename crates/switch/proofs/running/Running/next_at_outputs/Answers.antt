@@ -1,4 +1,4 @@
-use Rattle.std.proofs.Common.{◌∙◌, rules}
+use Rattle.std.proofs.Common.{ℕ, ◌∙◌, rules}
 use Rattle.switch.specs.Calls.{state_of}
 use Rattle.state.specs.Quiet.{output_next, outputs_next}
 use Rattle.state.proofs.NextEvent.{outputs_more}
@@ -9,5 +9,6 @@ pub returns : goal.returns
 unfolding outputs_next
 returns g c =
     let st = state_of g.S.Store.lists c.args.self.now in
-    c.fold_ports.ensures (λ next j. output_next st j next) (λ next port r k. search rules)
-    ∙ counted (λ next j. output_next st j next) (λ k. outputs_next st k c.args.best) (λ k. outputs_more st k c.args.best) c.args.self.now.plan.size.ports
+    let h : ℕ → ℕ → ℕ = λ next j. output_next st j next in
+    c.fold_ports.ensures h (λ next port r k. search rules)
+    ∙ counted h (λ k. outputs_next st k c.args.best) (λ k. outputs_more st k c.args.best) c.args.self.now.plan.size.ports

@@ -1,4 +1,4 @@
-use Rattle.std.proofs.Common.{◌∙◌, rules}
+use Rattle.std.proofs.Common.{ℕ, ◌∙◌, rules}
 use Rattle.switch.specs.Calls.{state_of}
 use Rattle.state.specs.Ready.{out_from}
 use Rattle.state.specs.Sends.{next_out}
@@ -12,5 +12,6 @@ unfolding column_next
 returns g c =
     let st = state_of g.S.Store.lists c.args.self.now in
     let j = c.args.output.index in
-    c.fold_ports.ensures (λ next i. sooner_of next 0 (out_from st.plan.size.longest (next_out st i j))) (λ next port r k. search rules)
-    ∙ counted (λ next i. sooner_of next 0 (out_from st.plan.size.longest (next_out st i j))) (λ n. column_next st j n c.args.best) (λ k. column_more st j k c.args.best) 16
+    let h : ℕ → ℕ → ℕ = λ next i. sooner_of next 0 (out_from st.plan.size.longest (next_out st i j)) in
+    c.fold_ports.ensures h (λ next port r k. search rules)
+    ∙ counted h (λ n. column_next st j n c.args.best) (λ k. column_more st j k c.args.best) 16
