@@ -30,9 +30,13 @@ use Rattle.switch.specs.Shown.{shown}
 abbrev pub state_of : {S R : Type 0} → (S → ℕ → ℕ → List Packet) → Running S R → State
 state_of lists r = shown (lists r.store.store) r
 
+-- The store's stated size is as it was.
+abbrev pub KeepsSize : {S R : Type 0} → (S → ℕ) → Running S R → Running S R → Type 0
+KeepsSize size before after = size after.store.store ≡ size before.store.store
+
 -- The store's stated size and the tie rule are as they were.
 pub record Keeps {S R : Type 0} (size : S → ℕ) (before after : Running S R) : Type 0 where
-  pub size_kept : size after.store.store ≡ size before.store.store
+  pub size_kept : KeepsSize size before after
   pub rule_kept : after.rule ≡ before.rule
 
 -- A draft is opened over a store, which is cleared: every flow is closed.

@@ -1,6 +1,6 @@
 //! The first half of a step: what each input starts across.
 ghost use Rattle.std.specs.Prelude.{◌≡◌, ◌-◌, ◌<◌, not, map};
-ghost use Rattle.switch.specs.Calls.{Keeps, state_of};
+ghost use Rattle.switch.specs.Calls.{Keeps, KeepsSize, state_of};
 ghost use Rattle.state.specs.Lines.{busy_at};
 ghost use Rattle.timing.specs.Stamps.{earlier};
 ghost use Rattle.timing.specs.Marks.{tied};
@@ -117,7 +117,7 @@ impl<S: Store, R: TieRule> Running<S, R> {
     // An input's turn in a step: it starts what is chosen, and tells the rule.
     fn cross(&mut self, port: Port)
         ensures turn { Crosses R.TieRule.answer R.TieRule.told port.index (state_of S.Store.lists self.old) self.old.rule (state_of S.Store.lists self.new) self.new.rule }
-        ensures size { S.Store.size self.new.store.store ≡ S.Store.size self.old.store.store }
+        ensures size { KeepsSize S.Store.size self.old self.new }
     {
         let input = port.index;
         let line = self.crossing[input];
@@ -131,7 +131,7 @@ impl<S: Store, R: TieRule> Running<S, R> {
     // The turns of all inputs, in order.
     pub(crate) fn cross_all(&mut self)
         ensures turns { Crossings R.TieRule.answer R.TieRule.told (state_of S.Store.lists self.old) self.old.rule self.old.plan.size.ports (state_of S.Store.lists self.new) self.new.rule }
-        ensures size { S.Store.size self.new.store.store ≡ S.Store.size self.old.store.store }
+        ensures size { KeepsSize S.Store.size self.old self.new }
     {
         // a `for`: of a chain whose closure changes the switch no clause says what was changed
         for i in 0..self.plan.size.ports {

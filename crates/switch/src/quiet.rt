@@ -1,5 +1,5 @@
 //! Quiet ticks, in which nothing starts and nothing leaves.
-ghost use Rattle.std.specs.Prelude.{◌≡◌, ◌-◌, ◌<◌, max};
+ghost use Rattle.std.specs.Prelude.{◌≡◌, ◌-◌, max};
 ghost use Rattle.switch.specs.Calls.{PassesQuiet, state_of};
 ghost use Rattle.state.specs.Quiet.{sooner_of, input_next, inputs_next, column_next, output_next, outputs_next, next_event, at_tick, StillFor, QuietSteps, Passes};
 
@@ -15,14 +15,10 @@ use tie::TieRule;
 fn sooner(best: u64, floor: u64, from: Option<u128>) -> u64
     ensures { result ≡ sooner_of best floor from }
 {
-    from.map_or(best, |tick| {
-        let at = tick.max(u128::from(floor));
-        if at < u128::from(best) {
-            at as u64
-        } else {
-            best
-        }
-    })
+    from.map_or(
+        best,
+        |tick| tick.max(u128::from(floor)).min(u128::from(best)) as u64,
+    )
 }
 
 impl<S: Store, R> Running<S, R> {

@@ -1,7 +1,7 @@
 //! A whole run: a draft is sealed, and any list of calls is made.
 ghost use Rattle.std.specs.Prelude.{◌≡◌, IfErr, IfOk};
 ghost use Rattle.state.specs.Performs.{Obeys, Performs};
-ghost use Rattle.switch.specs.Calls.{state_of};
+ghost use Rattle.switch.specs.Calls.{KeepsSize, state_of};
 
 use crate::draft::Draft;
 use crate::running::Running;
@@ -22,7 +22,7 @@ impl<S: Store, R: TieRule> Running<S, R> {
     // One call.
     fn make(&mut self, call: Call) -> Answer
         ensures law { Obeys (S.Store.size self.old.store.store) (state_of S.Store.lists self.old) (state_of S.Store.lists self.new) call result }
-        ensures stated_size { S.Store.size self.new.store.store ≡ S.Store.size self.old.store.store }
+        ensures stated_size { KeepsSize S.Store.size self.old self.new }
     {
         // A call is data, as a run is a list of any of them; so it is matched, and is no closure.
         match call {
@@ -39,7 +39,7 @@ impl<S: Store, R: TieRule> Running<S, R> {
     // A step with room for so many departures. A list of 16 entries is as good as any longer one.
     fn step_on(&mut self, room: usize) -> Result<Listed, StepFault>
         ensures law { Obeys (S.Store.size self.old.store.store) (state_of S.Store.lists self.old) (state_of S.Store.lists self.new) (Call.Step room) (Answer.Step result) }
-        ensures stated_size { S.Store.size self.new.store.store ≡ S.Store.size self.old.store.store }
+        ensures stated_size { KeepsSize S.Store.size self.old self.new }
     {
         let mut departures = [Departure::default(); 16];
         let count = self.step(&mut departures[..room.min(16)])?;

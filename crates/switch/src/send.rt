@@ -1,6 +1,6 @@
 //! The second half of a step: what each output starts. And the whole of a step.
 ghost use Rattle.std.specs.Prelude.{◌≡◌, ◌-◌, ◌^◌, ◌<◌, ◌≤◌, cond, ◌++◌, length, OnErr};
-ghost use Rattle.switch.specs.Calls.{state_of};
+ghost use Rattle.switch.specs.Calls.{KeepsSize, state_of};
 ghost use Rattle.state.specs.Sends.{mark_out, marks_out, crossing_bytes, waits_out, question_out, next_out, departure_of, sent_with, Sends, Sendings, Stepped, ticked};
 ghost use Rattle.state.specs.Steps.{StepsSo};
 
@@ -111,6 +111,7 @@ impl<S: Store, R> Running<S, R> {
 
 impl<S: Store, R: TieRule> Running<S, R> {
     // An output's turn in a step.
+    // Not one function with an input's turn: the two halves of a step share only the generic parts, and their effects differ.
     fn send(&mut self, port: Port)
         ensures turn { Sends R.TieRule.answer R.TieRule.told port.index (state_of S.Store.lists self.old) self.old.rule (state_of S.Store.lists self.new) self.new.rule }
         ensures store { self.new.store ≡ self.old.store }
@@ -140,7 +141,7 @@ impl<S: Store, R: TieRule> Running<S, R> {
     pub(crate) fn advance(&mut self, out: &mut [Departure]) -> Result<usize, StepFault>
         ensures step { StepsSo R.TieRule.answer R.TieRule.told (state_of S.Store.lists self.old) self.old.rule (state_of S.Store.lists self.new) self.new.rule out.old out.new result }
         ensures refused { OnErr result ((self.new ≡ self.old) × (out.new ≡ out.old)) }
-        ensures size { S.Store.size self.new.store.store ≡ S.Store.size self.old.store.store }
+        ensures size { KeepsSize S.Store.size self.old self.new }
     {
         if out.len() < self.plan.size.ports {
             return Err(StepFault::Short);
