@@ -69,17 +69,15 @@ impl Store for Rings {
     }
 
     fn count(&self, input: usize, output: usize) -> usize {
-        let Some(flow) = Flow::new(input, output) else {
-            return 0;
-        };
-        self.rings[flow.cell()].len()
+        Flow::new(input, output).map_or(0, |flow| self.rings[flow.cell()].len())
     }
 
     fn note(&mut self, input: usize, output: usize, k: usize, tick: u64) -> bool {
         let Some(flow) = Flow::new(input, output) else {
             return false;
         };
-        // as a slice: of a struct with a ghost field an element by itself is not lent
+        // as a slice: the packet is lent on past the call of get_mut, which the borrow checker does not cover for an element
+        // of an array; put and remove call a method on the element, and keep nothing of it
         let rings = &mut self.rings[..];
         let Some(packet) = rings[flow.cell()].get_mut(k) else {
             return false;
@@ -96,10 +94,7 @@ impl Store for Rings {
     }
 
     fn is_full(&self, input: usize, output: usize) -> bool {
-        let Some(flow) = Flow::new(input, output) else {
-            return true;
-        };
-        self.rings[flow.cell()].is_full()
+        Flow::new(input, output).is_none_or(|flow| self.rings[flow.cell()].is_full())
     }
 
     fn stated_size(&self) -> usize
