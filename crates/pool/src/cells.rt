@@ -71,10 +71,7 @@ impl Store for Pool {
     }
 
     fn count(&self, input: usize, output: usize) -> usize {
-        let Some(flow) = Flow::new(input, output) else {
-            return 0;
-        };
-        self.links.len(flow.cell())
+        Flow::new(input, output).map_or(0, |flow| self.links.len(flow.cell()))
     }
 
     fn note(&mut self, input: usize, output: usize, k: usize, tick: u64) -> bool {

@@ -7,18 +7,12 @@ ghost use Rattle.pool.specs.Queues.{first_cells, last_cells, lengths, cell_in, C
 use std::array;
 
 // The first and the last cell of a queue, and how many cells it has.
-#[derive(Clone, Copy)]
+#[derive(Clone, Copy, Default)]
 struct Queue {
     first: usize,
     last: usize,
     count: usize,
 }
-
-const EMPTY: Queue = Queue {
-    first: 0,
-    last: 0,
-    count: 0,
-};
 
 // 512 cells in 257 queues: every cell stands in one queue. The links are numbers of cells, since no store allocates.
 #[derive(Drop)]
@@ -38,12 +32,13 @@ pub(crate) struct Links {
 // The last queue: that of the cells that hold nothing.
 pub(crate) const FREE: usize = 256;
 
+// A queue is asked by its number, below 257: a type for it would have to be made of a flow, and of FREE, at each call.
 impl Links {
     // All cells free, in order.
     pub(crate) fn new() -> Links
         ensures { lengths result.queues ≡ slice_set (replicate 257 0) 256 512 }
     {
-        let mut queues = [EMPTY; 257];
+        let mut queues = [Queue::default(); 257];
         queues[FREE] = Queue {
             first: 0,
             last: 511,
@@ -73,7 +68,7 @@ impl Links {
         if k >= count {
             return None;
         }
-        // a loop, not a fold: its invariant says that each cell on the way is one of the 512
+        // tried as a fold, whose proof did not close: the loop's invariant says that each cell on the way is one of the 512
         let mut cell = first;
         for _ in 0..k {
             cell = self.next[cell];
