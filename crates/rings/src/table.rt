@@ -76,8 +76,8 @@ impl Store for Rings {
         let Some(flow) = Flow::new(input, output) else {
             return false;
         };
-        // as a slice: the packet is lent on past the call of get_mut, which the borrow checker does not cover for an element
-        // of an array; put and remove call a method on the element, and keep nothing of it
+        // as a slice: the packet is lent past the call of get_mut, and of an element within a struct with a ghost field the
+        // borrow checker does not cover that; put and remove call a method on the element and keep no reference
         let rings = &mut self.rings[..];
         let Some(packet) = rings[flow.cell()].get_mut(k) else {
             return false;
