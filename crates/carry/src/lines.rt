@@ -15,9 +15,7 @@ pub fn push<L: Line>(out: &mut Vec<u8>, line: &L) -> Result<(), AllocError>
     ensures { Adds (L.text line.now) out.old out.new (is_ok result) }
 {
     let mut text = [0; LONGEST_LINE];
-    let Ok(n) = line.write(&mut text) else {
-        unreachable()
-    };
+    let n = line.write(&mut text).unwrap();
     out.extend_from_slice(&text[..n])
 }
 

@@ -20,15 +20,10 @@ fn push_flow<S: Store, R>(
     requires ports { (i < settled.now.running.plan.size.ports) × (j < settled.now.running.plan.size.ports) }
     ensures { AddsOf S.Store.lists settled.now (λ plan s. peak_of plan s i j) out.old out.new (is_ok result) }
 {
-    let Ok(open) = settled.plan().is_open(i, j) else {
-        unreachable()
-    };
-    if !open {
+    if !settled.plan().is_open(i, j).unwrap() {
         return Ok(());
     }
-    let Ok(report) = settled.report(i, j) else {
-        unreachable()
-    };
+    let report = settled.report(i, j).unwrap();
     // widened by `as`: no number is made of a usize by From
     let line = Peak {
         input: i as u64,
@@ -54,7 +49,7 @@ fn push_row<S: Store, R>(
     Ok(())
 }
 
-// The `X` lines of all open flows.
+// The `X` lines of all open flows. As in push_row, there is no list to go over.
 pub(crate) fn push_peaks<S: Store, R>(
     out: &mut Vec<u8>,
     settled: &Settled<S, R>,

@@ -51,7 +51,7 @@ fn play_by<S: NamedStore + Drop>(
     }
 }
 
-// A file, over the store and by the rule that its head names.
+// A file, over the store and by the rule that its head names. Each arm runs over a store of a type of its own.
 fn play_file(file: &[u8], out: &mut Vec<u8>) -> Result<(), Stop>
     ensures { Leaves (Lists file.now) out.old out.new result }
 {
