@@ -12,7 +12,7 @@ pub enum Stop {
     Memory(AllocError),
 }
 
-// By hand, not by thiserror: clauses read `from_gives`, and its From has no contract.
+// By hand, not by thiserror: clauses read `from_gives`, and thiserror's From has no contract.
 impl From<Fault> for Stop {
     ghost from_gives = { λ f s. s ≡ stop.Refused f };
 
