@@ -23,7 +23,8 @@ const MOST: u64 = 65537;
 fn read_file<R: Read>(alloc: Global, input: &mut R) -> anyhow::Result<Vec<u8>>
     ensures { IfOk result (λ file. IfSome (R.remaining input.old) (λ bytes. file.items ≡ take MOST bytes)) }
 {
-    let mut file = Vec::with_capacity(alloc, MOST as usize)?;
+    // one byte more, so that the read that finds the end wants no more memory
+    let mut file = Vec::with_capacity(alloc, MOST as usize + 1)?;
     input.take(MOST).read_to_end(&mut file)?;
     Ok(file)
 }

@@ -8,7 +8,7 @@ mod ask;
 mod book;
 
 /// The weights that are booked: that of flow (i, j) stands at 16 × i + j. The weights of each input, and
-/// those of each output, sum to at most W.
+/// those of each output, sum to at most W. The table is an array of fixed size: a plan does not allocate.
 #[derive(Clone, Copy)]
 pub struct Plan {
     pub size: Size,

@@ -79,7 +79,7 @@ impl From<ArriveFault> for Cause {
 }
 
 impl Cause {
-    /// The layer that refuses, reader 1, plan 2 or switch 3, and the number of the refusal.
+    /// The layer that refuses, reader 1, plan 2 or switch 3, and the number of the refusal: the two numbers of an `R` line.
     pub fn code(self) -> (u8, u8)
         ensures { result ≡ code self }
     {

@@ -10,7 +10,8 @@ use crate::packet::{Incoming, Packet};
 use grid::Flow;
 
 /// A store whose packets are numbered: the lists, the signs and the stated size of the store below, and for each flow
-/// how many packets were taken since the last clear, modulo 2^64.
+/// how many packets were taken since the last clear, modulo 2^64. The counts are an array of fixed size: a store does not
+/// allocate.
 #[derive(Drop)]
 pub struct Numbered<S> {
     store: S,

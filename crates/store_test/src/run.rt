@@ -41,7 +41,7 @@ fn call_from(seed: u64) -> Call {
     }
 }
 
-// What both keep of a packet.
+// What is compared of a packet: not its stamps, which are equal as fractions.
 fn kept(packet: Packet) -> (u64, u64, u32, Option<u64>) {
     (packet.serial, packet.arrival, packet.bytes, packet.crossing)
 }

@@ -17,6 +17,7 @@ pub fn choose<M: Ord + Copy, const N: usize>(marks: &[Option<M>; N]) -> [bool; N
     ensures each { (k : ℕ) → Decides (slice_index_or result k false) (First (less M.cmp) marks.now k) }
 {
     let first = least(marks);
+    // by index: within the closure of `array::from_fn` the bound of an array of any length is not known, as was tried
     let mut chosen = [false; N];
     for (k, mark) in marks.iter().enumerate() {
         chosen[k] = mark.is_some() && *mark == first;
