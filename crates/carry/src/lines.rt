@@ -14,6 +14,7 @@ use std::alloc::AllocError;
 pub fn push<L: Line>(out: &mut Vec<u8>, line: &L) -> Result<(), AllocError>
     ensures { Adds (L.text line.now) out.old out.new (is_ok result) }
 {
+    // an array and the length of its line: what `write` fills, and answers
     let mut text = [0; LONGEST_LINE];
     let n = line.write(&mut text).unwrap();
     out.extend_from_slice(&text[..n])

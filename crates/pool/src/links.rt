@@ -68,7 +68,7 @@ impl Links {
         if k >= count {
             return None;
         }
-        // tried as a fold, whose proof did not close: the loop's invariant says that each cell on the way is one of the 512
+        // tried as a fold: that each cell which its closure is handed is one of the 512 stayed open; the loop has it as invariant
         let mut cell = first;
         for _ in 0..k {
             cell = self.next[cell];
