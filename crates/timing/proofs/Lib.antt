@@ -3,3 +3,4 @@ pub mod Firsts
 pub mod Scaled
 pub mod Served
 pub mod Stamped
+pub mod WholeTicksFirst

@@ -108,9 +108,14 @@ impl Ord for Stamp {
     ghost matches_eq = { Prim.search rules };
 
     fn cmp(&self, other: &Stamp) -> Ordering {
-        let left = self.scaled() * u128::from(other.weight);
-        let right = other.scaled() * u128::from(self.weight);
-        left.cmp(&right)
+        match self.tick.cmp(&other.tick) {
+            Ordering::Equal => {
+                let left = u64::from(self.numerator) * u64::from(other.weight);
+                let right = u64::from(other.numerator) * u64::from(self.weight);
+                left.cmp(&right)
+            }
+            unequal => unequal,
+        }
     }
 }
 
