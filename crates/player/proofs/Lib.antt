@@ -1,3 +1,4 @@
 pub mod Inside
 pub mod Ticked
+pub mod QuietTicks
 pub mod Offered

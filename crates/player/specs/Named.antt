@@ -8,7 +8,7 @@ use Rattle.replay.specs.Kinds.{Sign, Kind}
 use Rattle.replay.specs.Replay.{at_start}
 use Rattle.switch.specs.declared.draft.Draft.{Draft}
 use Rattle.player.specs.declared.player.Player.{Player}
-use Rattle.player.specs.Plays.{Offers, Plays, Ticks, kind_with}
+use Rattle.player.specs.Plays.{Offers, Passes, Plays, Ticks, kind_with}
 
 abbrev pub StoreOf : Type 0 → Type 0
 StoreOf S = record { lists : S → ℕ → ℕ → List Packet; full : S → ℕ → ℕ → Bool; size : S → ℕ; sign : Sign; flow_most : ℕ }
@@ -27,9 +27,12 @@ module _ {S R : Type 0} (store : StoreOf S) (rule : RuleOf R) where
       let plan = plan_of draft.plan in
       Plays store.lists store.size plan (at_start plan (kind_with store.sign rule.answer rule.next draft.rule)) p
 
-  -- what a tick makes of a player, and an arrival
+  -- what a tick makes of a player, the passing of quiet ticks, and an arrival
   abbrev pub TicksOn : Player S R → Player S R → Type 0
   TicksOn before after = Ticks store.lists store.size store.sign rule.answer rule.next before after
+
+  abbrev pub PassesOn : Player S R → Player S R → ℕ → ℕ → Type 0
+  PassesOn before after limit k = Passes store.lists store.size store.sign rule.answer rule.next before after limit k
 
   abbrev pub OffersTo : Player S R → Player S R → ℕ → ℕ → ℕ → Result (Unit {0}) ArriveFault → Type 0
   OffersTo before after i j b r = Offers store.lists store.size store.sign rule.answer rule.next before after i j b r

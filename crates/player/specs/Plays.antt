@@ -1,6 +1,6 @@
 -- A player at a moment of a replay, and what its calls do there. S is the store and R the tie rule: of the store its lists,
 -- stated size and sign, of the rule its answers and what it keeps next.
-use Rattle.std.specs.Prelude.{◌≡◌, ℕ, ◌+◌, ◌%◌, ◌^◌, ◌<◌, true, false, List, take, Some, None, Ok, Err, Result}
+use Rattle.std.specs.Prelude.{◌≡◌, ℕ, ◌+◌, ◌-◌, ◌%◌, ◌^◌, ◌<◌, ◌≤◌, min, max, true, false, cond, List, [], take, Some, None, Ok, Err, Result, ◌==◌}
 use Rattle.departure.specs.declared.Departure.{Departure}
 use Rattle.plan.specs.Refusals.{arrive_refusal}
 use Rattle.plan.specs.declared.fault.ArriveFault.{ArriveFault}
@@ -11,12 +11,13 @@ use Rattle.law.specs.Plans.{plan_of}
 use Rattle.law.specs.Step.{Plan}
 use Rattle.law.specs.Rules.{Rule}
 use Rattle.law.specs.Runs.{leaves, all_inside}
+use Rattle.state.specs.Quiet.{next_event}
 use Rattle.state.specs.Shows.{Moment}
 use Rattle.switch.specs.Calls.{state_of}
 use Rattle.switch.specs.declared.running.Running.{Running}
 use Rattle.replay.specs.Kinds.{Sign, Kind}
-use Rattle.replay.specs.Replay.{Arrival, Replayed, run_tick, offered}
-use Rattle.replay.specs.Events.{left_in, bytes_in}
+use Rattle.replay.specs.Replay.{Arrival, Replayed, run_tick, run_ticks, offered}
+use Rattle.replay.specs.Events.{events_of, left_in, bytes_in}
 use Rattle.player.specs.declared.player.Player.{Player}
 
 -- a store's sign and a tie rule that at first is this one
@@ -39,6 +40,11 @@ pub record Plays {S R : Type 0} (lists : S → ℕ → ℕ → List Packet) (siz
   pub inside : p.inside ≡ all_inside plan x.switch
   pub bytes : p.bytes ≡ bytes_in (left_in x.log) % 2 ^ 64
 
+-- The k ticks of a replay from a moment on are quiet: after each of them the events are the same, and as many packets are inside.
+pub record IsQuiet {K : Type 0} (plan : Plan) (kind : Kind K) (x : Replayed K) (k : ℕ) : Type 0 where
+  pub events : (m : ℕ) → m ≤ k → events_of (run_ticks plan kind m x).log ≡ events_of x.log
+  pub inside : (m : ℕ) → m ≤ k → all_inside plan (run_ticks plan kind m x).switch ≡ all_inside plan x.switch
+
 module _ {S R : Type 0} (lists : S → ℕ → ℕ → List Packet) (size : S → ℕ) (sign : Sign) (answer : R → Rule) (next : R → ℕ → ℕ → R) where
   -- a tick of a replay, before the clock's last: what leaves is listed
   abbrev pub Ticks : Player S R → Player S R → Type 0
@@ -46,6 +52,17 @@ module _ {S R : Type 0} (lists : S → ℕ → ℕ → List Packet) (size : S �
       (plan : Plan) (first : R) (x : Replayed R) → Plays lists size plan x before → x.switch.clock < LAST_TICK →
       Plays lists size plan (run_tick plan (kind_with sign answer next first) x) after
       × (left_now after ≡ leaves plan (run_tick plan (kind_with sign answer next first) x).switch x.switch.clock (x.switch.clock + 1))
+
+  -- k ticks of a replay are passed, all those up to the limit that come before the switch's next event: they are quiet, and none
+  -- is beyond the limit; in the last of them, if there is one, nothing left
+  abbrev pub Passes : Player S R → Player S R → ℕ → ℕ → Type 0
+  Passes before after limit k =
+      (k ≡ next_event (state_of lists before.running) limit - before.running.clock)
+      × (left_now after ≡ cond (k == 0) (left_now before) [])
+      × ((plan : Plan) (first : R) (x : Replayed R) → Plays lists size plan x before →
+      Plays lists size plan (run_ticks plan (kind_with sign answer next first) k x) after
+      × IsQuiet plan (kind_with sign answer next first) x k
+      × (x.switch.clock + k ≤ max x.switch.clock (min limit LAST_TICK)))
 
   -- what an arrival answers: a lawful one is accepted where the store's sign is down, and turned away where it is up; any other
   -- is refused by the plan, and nothing changes

@@ -28,7 +28,7 @@ fn bytes_in(departures: &[Departure]) -> u64
 }
 
 impl<S: NamedStore, R: NamedRule> Player<S, R> {
-    ghost use Rattle.player.specs.Named.{Begins, OffersTo, TicksOn};
+    ghost use Rattle.player.specs.Named.{Begins, OffersTo, PassesOn, TicksOn};
 
     /// Seals a draft: the clock stands at 0, and nothing is inside.
     pub fn new(draft: Draft<S, R>) -> Player<S, R>
@@ -56,6 +56,18 @@ impl<S: NamedStore, R: NamedRule> Player<S, R> {
         self.count = count;
         self.inside = self.inside.saturating_sub(count);
         self.bytes = self.bytes.wrapping_add(bytes_in(&self.list[..count]));
+    }
+
+    /// Passes at one go the quiet ticks from now on, none beyond the limit: those in which nothing starts and nothing leaves.
+    /// Answers how many they are; if there is one, `departures` is empty after it.
+    pub fn pass_quiet(&mut self, limit: u64) -> u64
+        ensures { PassesOn S.NamedStore R.NamedRule self.old self.new limit result }
+    {
+        let ticks = self.running.pass_quiet(limit);
+        if ticks > 0 {
+            self.count = 0;
+        }
+        ticks
     }
 
     /// A packet comes to a flow at the present tick.

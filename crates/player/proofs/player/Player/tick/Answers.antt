@@ -20,5 +20,5 @@ returns g c plan first x plays early =
     let rest = drop (n - 0) p.list in
     let long = length-take-le (n - 0) p.list room in
     let left = take-append-le count new rest (omega (arith, done.few, done.entries)) in
-    plays_on g.S.Store.lists g.S.Store.size kind g.R.TieRule.told g.met.R.NamedRule.keeps_next g.met.R.TieRule.picks_tied p _ (take (n - 0) p.list) new (long ∙ omega (arith, ports)) count done
+    plays_on g.S.Store.lists g.S.Store.size kind g.R.TieRule.told g.met.R.NamedRule.keeps_next p _ (take (n - 0) p.list) new (long ∙ omega (arith, ports)) count done
     left c.saturating_sub-self.ensures (ap (λ (b : ℕ). (p.bytes + b) % 2 ^ 64) (c.bytes_in.ensures ∙ ap bytes_in left)) plan x plays
