@@ -1,5 +1,5 @@
 -- A replay goes on, and so do its lines. Assumes nothing.
-use Rattle.std.proofs.Common.{◌≡◌, ℕ, zero, suc, ◌+◌, ◌-◌, ◌<◌, ◌≤◌, Bool, true, false, List, [], ◌∷◌, ◌++◌, map, sym, refl, ap, ◌∙◌, subst, arith}
+use Rattle.std.proofs.Common.{◌≡◌, ℕ, zero, suc, ◌+◌, ◌-◌, ◌<◌, ◌≤◌, Bool, true, false, List, [], ◌∷◌, ◌++◌, map, sym, refl, ap, ◌∙◌, subst, add-one, arith}
 use Rattle.std.proofs.lemmas.Bool.{cond_both}
 use Rattle.std.proofs.lemmas.List.{append-nil, append_assoc}
 use Rattle.std.proofs.lemmas.Grind.{flat_map-append}
@@ -9,7 +9,7 @@ use Rattle.law.specs.Step.{Plan}
 use Rattle.replay.specs.Kinds.{Kind}
 use Rattle.replay.specs.Replay.{Arrival, Replayed, next_switch, run_tick, run_ticks, offered, run_out}
 use Rattle.replay.specs.Events.{Event, left, turned_away, events_of}
-use Rattle.replay.proofs.Steps.{ticks_more, out_goes_on, out_ticks}
+use Rattle.replay.proofs.Steps.{ticks_none, ticks_last, ticks_more, out_goes_on, out_ticks}
 use Rattle.carry.specs.Lines.{event_line, event_lines}
 use Rattle.carry.specs.Lists.{Appends}
 use Rattle.carry.specs.Playing.{Tells}
@@ -34,6 +34,10 @@ module _ {K : Type 0} where
   tells_none x y before after room more e t =
       subst (λ (text : List ℕ). Appends text before after room more false) (sym (ap event_lines e.1 ∙ lines_append (events_of x.log) e.0))
       (append_fails (event_lines (events_of x.log)) (event_lines e.0) before after room more t)
+
+  -- the same events, the same lines
+  pub tells_same : (x y : Replayed K) → events_of y.log ≡ events_of x.log → (before out : List ℕ) (room more : ℕ) (ok : Bool) → Tells x before out room more ok → Tells y before out room more ok
+  tells_same x y e before out room more ok t = subst (λ (es : List Event). Appends (event_lines es) before out room more ok) (sym e) t
 
   -- the lines of what is new, appended
   pub tells_more : (x y : Replayed K) (es : List Event) → events_of y.log ≡ events_of x.log ++ es → (before out after : List ℕ) (room more most : ℕ) (ok : Bool) →
@@ -65,6 +69,19 @@ module _ {K : Type 0} (plan : Plan) (kind : Kind K) where
   out_onward n k x y h some e =
       let one : n - k ≡ n - (k + 1) + 1 = omega arith in
       e ∙ ap (λ m. run_out plan kind m y) one ∙ out_goes_on plan kind (n - (k + 1)) y some
+
+  -- the same of k ticks, where something is inside before each of them
+  pub out_on : (k n : ℕ) (x : Replayed K) → k ≤ n → ((m : ℕ) → m < k → all_inside plan (run_ticks plan kind m x).switch ≡ 0 → ⊥) →
+      run_out plan kind n x ≡ run_out plan kind (n - k) (run_ticks plan kind k x)
+  out_on zero n x h some =
+      let all : n ≡ n - 0 = omega arith in
+      ap (λ m. run_out plan kind m x) all ∙ ap (run_out plan kind (n - 0)) (sym (ticks_none plan kind x))
+  out_on (suc k) n x h some =
+      let y = run_ticks plan kind k x in
+      let last : run_tick plan kind y ≡ run_ticks plan kind (suc k) x = sym (ticks_last plan kind k x) ∙ ap (λ m. run_ticks plan kind m x) (add-one k) in
+      let left : n - (k + 1) ≡ n - suc k = omega arith in
+      out_onward n k x y (omega arith) (some k (omega arith)) (out_on k n x (omega arith) (λ m l. some m (omega (arith, l))))
+      ∙ ap (λ m. run_out plan kind m (run_tick plan kind y)) left ∙ ap (run_out plan kind (n - suc k)) last
 
   pub offered_extends : (a : Arrival) (x : Replayed K) → Extends x (offered plan kind a x)
   offered_extends a x =

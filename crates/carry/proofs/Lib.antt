@@ -7,6 +7,7 @@ pub mod Behind
 pub mod Joins
 pub mod Grows
 pub mod Extends
+pub mod Advanced
 pub mod Played
 pub mod Finished
 pub mod Brought

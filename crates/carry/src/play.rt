@@ -2,7 +2,7 @@
 //! and the other is the caller's.
 ghost use Rattle.std.specs.Prelude.{◌-◌, ◌<◌, ◌≤◌};
 ghost use Rattle.replay.specs.Replay.{run_out, run_tick, run_to};
-ghost use Rattle.carry.specs.Playing.{Ends, IsPlaying, PlaysOn};
+ghost use Rattle.carry.specs.Playing.{Advances, Ends, IsPlaying, PlaysOn};
 
 use crate::lines::{push, push_departures};
 use crate::peaks::push_peaks;
@@ -22,6 +22,21 @@ fn tick<S: NamedStore, R: NamedRule>(
     push_departures(out, player.departures())
 }
 
+// The quiet ticks from now on and the one behind them, none beyond the limit.
+fn advance<S: NamedStore, R: NamedRule>(
+    player: &mut Player<S, R>,
+    limit: u64,
+    out: &mut Vec<u8>,
+) -> Result<(), AllocError>
+    ensures { Advances S.NamedStore R.NamedRule limit player.old player.new out.old out.new result }
+{
+    player.pass_quiet(limit);
+    if player.clock() >= limit {
+        return Ok(());
+    }
+    tick(player, out)
+}
+
 /// The ticks up to this one.
 pub fn run_to<S: NamedStore, R: NamedRule>(
     player: &mut Player<S, R>,
@@ -30,9 +45,12 @@ pub fn run_to<S: NamedStore, R: NamedRule>(
 ) -> Result<(), AllocError>
     ensures { PlaysOn S.NamedStore R.NamedRule (λ plan kind. run_to plan kind until) (λ _. until ≤ LAST_TICK) player.old player.new out.old out.new result }
 {
-    // ticks are counted, nothing is indexed: a chain would have to carry the player, the vector and the error along
+    // at most as many turns as ticks, nothing is indexed: a chain would have to carry the player, the vector and the error along
     for _ in 0..until.saturating_sub(player.clock()) {
-        tick(player, out)?;
+        if player.clock() >= until {
+            return Ok(());
+        }
+        advance(player, until, out)?;
     }
     Ok(())
 }
@@ -46,10 +64,10 @@ pub fn run_out<S: NamedStore, R: NamedRule>(
 {
     // as in `run_to`; and a `while` would need a measure where the range is one
     for _ in 0..LAST_TICK.saturating_sub(player.clock()) {
-        if player.inside() == 0 {
+        if player.inside() == 0 || player.clock() >= LAST_TICK {
             return Ok(());
         }
-        tick(player, out)?;
+        advance(player, LAST_TICK, out)?;
     }
     Ok(())
 }

@@ -1,4 +1,4 @@
-use Rattle.std.proofs.Common.{ℕ, ◌≤◌, List, vec_items, vec_capacity}
+use Rattle.std.proofs.Common.{ℕ, ◌-◌, ◌≤◌, max, List, vec_items, vec_capacity}
 use Rattle.plan.specs.declared.fault.TheConstants.{LAST_TICK}
 use Rattle.law.specs.Step.{Plan}
 use Rattle.replay.specs.Replay.{Replayed, run_ticks}
@@ -6,9 +6,11 @@ use Rattle.player.specs.Plays.{kind_with}
 use Rattle.carry.specs.Playing.{IsUpTo}
 use Rattle.carry.proofs.play.run_to.Given as goal
 
--- as many ticks are played as there were rounds
+-- the ticks that the clock tells are played, no fewer than there were turns, and none beyond the last of those asked for
 abbrev pub invariant-loop : goal.invariant-loop
 invariant-loop g l =
     (plan : Plan) (first : g.row.R.Denot) (x : Replayed g.row.R.Denot) (before : List ℕ) (room : ℕ) →
     IsUpTo g.S.Store.lists g.S.Store.size plan x l.initial.player before (vec_items l.initial.out) room (vec_capacity l.initial.out) → l.until ≤ LAST_TICK →
-    IsUpTo g.S.Store.lists g.S.Store.size plan (run_ticks plan (kind_with g.S.NamedStore.sign g.R.TieRule.answer g.R.NamedRule.next first) l.counter x) l.player before (vec_items l.out) room (vec_capacity l.out)
+    IsUpTo g.S.Store.lists g.S.Store.size plan (run_ticks plan (kind_with g.S.NamedStore.sign g.R.TieRule.answer g.R.NamedRule.next first) (l.player.running.clock - x.switch.clock) x) l.player before (vec_items l.out) room (vec_capacity l.out)
+    × (l.counter ≤ l.player.running.clock - x.switch.clock)
+    × (l.player.running.clock ≤ max x.switch.clock l.until)
