@@ -10,100 +10,88 @@ use Rattle.state.specs.Crosses.{mark_across, next_across}
 use Rattle.state.specs.Sends.{mark_out, next_out}
 use Rattle.state.specs.Ready.{across_from, out_from}
 use Rattle.state.proofs.ReadyTick.{ready_across, ready_out, not_ready, is_ready}
-use Rattle.state.specs.Quiet.{sooner_of, input_next, inputs_next, column_next, output_next, outputs_next, next_event, at_tick, Still, StillFor}
+use Rattle.state.specs.Due.{sooner_of, first_of, across_due, out_due}
+use Rattle.state.specs.Quiet.{input_next, inputs_next, output_next, outputs_next, next_event, at_tick, Still, StillFor}
 use Rattle.state.specs.Lines.{until_of, busy_at, Line}
 
 -- one port more
-pub input_more : (st : State) (i n best : ℕ) → input_next st i (n + 1) best ≡ sooner_of (input_next st i n best) (until_of (st.crossing i)) (across_from (next_across st i n))
-unfolding input_next
-input_more st i n best = ap (λ m. input_next st i m best) (add-one n)
+pub first_more : (f : ℕ → Option ℕ) (n : ℕ) → first_of f (n + 1) ≡ sooner_of (first_of f n) (f n)
+unfolding first_of
+first_more f n = ap (first_of f) (add-one n)
 
-pub inputs_more : (st : State) (n best : ℕ) → inputs_next st (n + 1) best ≡ input_next st n 16 (inputs_next st n best)
+pub inputs_more : (st : State) (n best : ℕ) → inputs_next st (n + 1) best ≡ input_next st n (inputs_next st n best)
 unfolding inputs_next
 inputs_more st n best = ap (λ m. inputs_next st m best) (add-one n)
-
-pub column_more : (st : State) (j n best : ℕ) → column_next st j (n + 1) best ≡ sooner_of (column_next st j n best) 0 (out_from st.plan.size.longest (next_out st n j))
-unfolding column_next
-column_more st j n best = ap (λ m. column_next st j m best) (add-one n)
 
 pub outputs_more : (st : State) (n best : ℕ) → outputs_next st (n + 1) best ≡ output_next st n (outputs_next st n best)
 unfolding outputs_next
 outputs_more st n best = ap (λ m. outputs_next st m best) (add-one n)
 
--- it is at most each of those from which it is made
-sooner_le : (best floor : ℕ) (o : Option ℕ) → sooner_of best floor o ≤ best
-sooner_le best floor None = omega arith
-sooner_le best floor (Some t) = omega arith
+-- the first of some ticks is at most each of them, and one of them or the clock's last
+sooner_le : (best : ℕ) (o : Option ℕ) → sooner_of best o ≤ best
+sooner_le best None = omega arith
+sooner_le best (Some t) = omega arith
 
-sooner_at : (best floor : ℕ) (o : Option ℕ) (t : ℕ) → o ≡ Some t → sooner_of best floor o ≤ max t floor
-sooner_at best floor o t e = subst (λ (x : Option ℕ). sooner_of best floor x ≤ max t floor) (sym e) (within best floor t)
-  where
-    within : (b f x : ℕ) → min b (max x f) ≤ max x f
-    within b f x = omega arith
+sooner_at : (best t : ℕ) (o : Option ℕ) → o ≡ Some t → sooner_of best o ≤ t
+sooner_at best t o e = subst (λ (x : Option ℕ). sooner_of best x ≤ t) (sym e) (omega arith)
+
+sooner_is : (best : ℕ) (o : Option ℕ) → (sooner_of best o ≡ best) ⊎ (o ≡ Some (sooner_of best o))
+sooner_is best None = inl refl
+sooner_is best (Some t) =
+    ⊎_elim
+    (λ (l : t < best). let e : t ≡ min best t = omega arith in inr (ap Some e))
+    (λ (l : best ≤ t). let e : min best t ≡ best = omega arith in inl e)
+    (cases_lt t best)
+
+pub first_at : (f : ℕ → Option ℕ) (n k t : ℕ) → k < n → f k ≡ Some t → first_of f n ≤ t
+unfolding first_of
+first_at f zero k t l e = absurd (omega arith)
+first_at f (suc n) k t l e =
+    ⊎_elim
+    (λ (here : k ≡ n). sooner_at (first_of f n) t (f n) (ap f (sym here) ∙ e))
+    (λ (below : k ≡ n → ⊥).
+    let lt : k < n = omega (arith, below, l) in
+    omega (arith, first_at f n k t lt e, sooner_le (first_of f n) (f n)))
+    (cases_eq k n)
+
+first_is : (f : ℕ → Option ℕ) (n : ℕ) → (first_of f n ≡ LAST_TICK) ⊎ ((k : ℕ) × (k < n) × (f k ≡ Some (first_of f n)))
+unfolding first_of
+first_is f zero = inl refl
+first_is f (suc n) =
+    ⊎_elim
+    (λ (e : sooner_of (first_of f n) (f n) ≡ first_of f n).
+    ⊎_elim
+    (λ (last : first_of f n ≡ LAST_TICK). inl (e ∙ last))
+    (λ (d : (k : ℕ) × (k < n) × (f k ≡ Some (first_of f n))). let lt : d.0 < suc n = omega (arith, d.1) in inr (d.0, lt, d.2 ∙ ap Some (sym e)))
+    (first_is f n))
+    (λ (here : f n ≡ Some (sooner_of (first_of f n) (f n))). let lt : n < suc n = omega arith in inr (n, lt, here))
+    (sooner_is (first_of f n) (f n))
 
 module _ (st : State) where
-  input_le : (i n best : ℕ) → input_next st i n best ≤ best
-  unfolding input_next
-  input_le i zero best = omega arith
-  input_le i (suc n) best = omega (arith, input_le i n best, sooner_le (input_next st i n best) (until_of (st.crossing i)) (across_from (next_across st i n)))
-
-  input_at : (i n best k t : ℕ) → k < n → across_from (next_across st i k) ≡ Some t → input_next st i n best ≤ max t (until_of (st.crossing i))
-  unfolding input_next
-  input_at i zero best k t l e = absurd (omega arith)
-  input_at i (suc n) best k t l e =
-      ⊎_elim
-      (λ (here : k ≡ n). sooner_at (input_next st i n best) (until_of (st.crossing i)) (across_from (next_across st i n)) t (ap (λ m. across_from (next_across st i m)) (sym here) ∙ e))
-      (λ (below : k ≡ n → ⊥).
-      let lt : k < n = omega (arith, below, l) in
-      omega (arith, input_at i n best k t lt e, sooner_le (input_next st i n best) (until_of (st.crossing i)) (across_from (next_across st i n))))
-      (cases_eq k n)
-
   inputs_le : (n best : ℕ) → inputs_next st n best ≤ best
   unfolding inputs_next
   inputs_le zero best = omega arith
-  inputs_le (suc n) best = omega (arith, inputs_le n best, input_le n 16 (inputs_next st n best))
+  inputs_le (suc n) best = omega (arith, inputs_le n best)
+
+  input_at : (i best k t : ℕ) → k < 16 → across_from (next_across st i k) ≡ Some t → input_next st i best ≤ max t (until_of (st.crossing i))
+  input_at i best k t m e = omega (arith, first_at (λ j. across_from (next_across st i j)) 16 k t m e)
 
   inputs_at : (n best i k t : ℕ) → i < n → k < 16 → across_from (next_across st i k) ≡ Some t → inputs_next st n best ≤ max t (until_of (st.crossing i))
   unfolding inputs_next
   inputs_at zero best i k t l m e = absurd (omega arith)
   inputs_at (suc n) best i k t l m e =
       ⊎_elim
-      (λ (here : i ≡ n). subst (λ x. input_next st x 16 (inputs_next st n best) ≤ max t (until_of (st.crossing i))) here (input_at i 16 (inputs_next st n best) k t m e))
+      (λ (here : i ≡ n). subst (λ x. input_next st x (inputs_next st n best) ≤ max t (until_of (st.crossing i))) here (input_at i (inputs_next st n best) k t m e))
       (λ (below : i ≡ n → ⊥).
       let lt : i < n = omega (arith, below, l) in
-      omega (arith, inputs_at n best i k t lt m e, input_le n 16 (inputs_next st n best)))
+      omega (arith, inputs_at n best i k t lt m e))
       (cases_eq i n)
-
-  column_le : (j n best : ℕ) → column_next st j n best ≤ best
-  unfolding column_next
-  column_le j zero best = omega arith
-  column_le j (suc n) best = omega (arith, column_le j n best, sooner_le (column_next st j n best) 0 (out_from st.plan.size.longest (next_out st n j)))
-
-  column_at : (j n best k t : ℕ) → k < n → out_from st.plan.size.longest (next_out st k j) ≡ Some t → column_next st j n best ≤ t
-  unfolding column_next
-  column_at j zero best k t l e = absurd (omega arith)
-  column_at j (suc n) best k t l e =
-      ⊎_elim
-      (λ (here : k ≡ n).
-      let x = sooner_at (column_next st j n best) 0 (out_from st.plan.size.longest (next_out st n j)) t (ap (λ m. out_from st.plan.size.longest (next_out st m j)) (sym here) ∙ e) in
-      omega (arith, x))
-      (λ (below : k ≡ n → ⊥).
-      let lt : k < n = omega (arith, below, l) in
-      omega (arith, column_at j n best k t lt e, sooner_le (column_next st j n best) 0 (out_from st.plan.size.longest (next_out st n j))))
-      (cases_eq k n)
-
-  output_le : (j best : ℕ) → output_next st j best ≤ best
-  output_le j best =
-      elim (busy_at st.clock (st.sending j)) as (λ b. cond b (min best (until_of (st.sending j) - 1)) (column_next st j 16 best) ≤ best) [
-        | true ↦ omega arith
-        | false ↦ column_le j 16 best
-      ]
 
   output_busy : (j best : ℕ) → busy_at st.clock (st.sending j) ≡ true → output_next st j best ≤ until_of (st.sending j) - 1
   output_busy j best e = rw e (omega arith)
 
   output_free : (j best k t : ℕ) → busy_at st.clock (st.sending j) ≡ false → k < 16 → out_from st.plan.size.longest (next_out st k j) ≡ Some t → output_next st j best ≤ t
-  output_free j best k t e l o = rw e (column_at j 16 best k t l o)
+  output_free j best k t e l o = rw e (omega (arith, first_at (λ i. out_from st.plan.size.longest (next_out st i j)) 16 k t l o))
 
   -- what holds of each output's tick holds of all
   outputs_at : (n best j x : ℕ) → j < n → ((b : ℕ) → output_next st j b ≤ x) → outputs_next st n best ≤ x
@@ -114,18 +102,18 @@ module _ (st : State) where
       (λ (here : j ≡ n). subst (λ y. output_next st y (outputs_next st n best) ≤ x) here (h (outputs_next st n best)))
       (λ (below : j ≡ n → ⊥).
       let lt : j < n = omega (arith, below, l) in
-      omega (arith, outputs_at n best j x lt h, output_le n (outputs_next st n best)))
+      omega (arith, outputs_at n best j x lt h))
       (cases_eq j n)
 
   outputs_le : (n best : ℕ) → outputs_next st n best ≤ best
   unfolding outputs_next
   outputs_le zero best = omega arith
-  outputs_le (suc n) best = omega (arith, outputs_le n best, output_le n (outputs_next st n best))
+  outputs_le (suc n) best = omega (arith, outputs_le n best)
 
-across_not : (t : ℕ) (o : Option Packet) → ((x : ℕ) → across_from o ≡ Some x → t < x) → mark_across t o ≡ None
+pub across_not : (t : ℕ) (o : Option Packet) → ((x : ℕ) → across_from o ≡ Some x → t < x) → mark_across t o ≡ None
 across_not t o h = sym (ready_across t o) ∙ not_ready t o (across_from o) h
 
-out_not : (L t : ℕ) (o : Option Packet) → ((x : ℕ) → out_from L o ≡ Some x → t < x) → mark_out L t o ≡ None
+pub out_not : (L t : ℕ) (o : Option Packet) → ((x : ℕ) → out_from L o ≡ Some x → t < x) → mark_out L t o ≡ None
 out_not L t o h = sym (ready_out L t o) ∙ not_ready t o (out_from L o) h
 
 busy_from : {X : Type 0} (t : ℕ) (line : Line X) → busy_at t line ≡ false → until_of line ≤ t
@@ -153,15 +141,6 @@ still_until st limit t from before =
           (cases_Bool (busy_at st.clock (st.sending j)));
     }
 
--- it is one of those from which it is made
-sooner_is : (best floor : ℕ) (o : Option ℕ) → (sooner_of best floor o ≡ best) ⊎ ((t : ℕ) × (o ≡ Some t) × (sooner_of best floor o ≡ max t floor))
-sooner_is best floor None = inl refl
-sooner_is best floor (Some t) =
-    ⊎_elim
-    (λ (l : max t floor < best). let e : min best (max t floor) ≡ max t floor = omega arith in inr (t, refl, e))
-    (λ (l : best ≤ max t floor). let e : min best (max t floor) ≡ best = omega arith in inl e)
-    (cases_lt (max t floor) best)
-
 -- input i may start something at x, and output j may start something or lets something leave
 record DueAcross (st : State) (x : ℕ) : Type 0 where
   i : ℕ
@@ -176,64 +155,69 @@ data DueOut (st : State) (x : ℕ) : Type 0 where
   leaves : (j : ℕ) → j < st.plan.size.ports → busy_at st.clock (st.sending j) ≡ true → x ≡ until_of (st.sending j) - 1 → DueOut st x
   sends : (i j t : ℕ) → i < 16 → j < st.plan.size.ports → busy_at st.clock (st.sending j) ≡ false → out_from st.plan.size.longest (next_out st i j) ≡ Some t → x ≡ t → DueOut st x
 
+-- the sooner of two ticks is one of them
+least_is : (best x : ℕ) → (min best x ≡ best) ⊎ (min best x ≡ x)
+least_is best x =
+    ⊎_elim
+    (λ (l : x < best). let e : min best x ≡ x = omega arith in inr e)
+    (λ (l : best ≤ x). let e : min best x ≡ best = omega arith in inl e)
+    (cases_lt x best)
+
 module _ (st : State) where
-  input_is : (i n best : ℕ) → i < st.plan.size.ports → n ≤ 16 → (input_next st i n best ≡ best) ⊎ DueAcross st (input_next st i n best)
-  unfolding input_next
-  input_is i zero best hi l = inl refl
-  input_is i (suc n) best hi l =
+  input_is : (i best : ℕ) → i < st.plan.size.ports → best ≤ LAST_TICK → (input_next st i best ≡ best) ⊎ DueAcross st (input_next st i best)
+  input_is i best hi most =
+      let due = across_due st.lists st.ledgers i in
       ⊎_elim
-      (λ (e : sooner_of (input_next st i n best) (until_of (st.crossing i)) (across_from (next_across st i n)) ≡ input_next st i n best).
-      ⊎_elim (λ (d : input_next st i n best ≡ best). inl (e ∙ d)) (λ (d : DueAcross st (input_next st i n best)). inr (subst (DueAcross st) (sym e) d)) (input_is i n best hi (omega (arith, l))))
-      (λ (d : (t : ℕ) × (across_from (next_across st i n) ≡ Some t) × (sooner_of (input_next st i n best) (until_of (st.crossing i)) (across_from (next_across st i n)) ≡ max t (until_of (st.crossing i)))).
-      inr record { i = i; j = n; input_in = hi; output_in = omega (arith, l); t = d.0; is = d.1; at = d.2 })
-      (sooner_is (input_next st i n best) (until_of (st.crossing i)) (across_from (next_across st i n)))
+      (λ (last : due ≡ LAST_TICK). let e : input_next st i best ≡ best = omega (arith, last, most) in inl e)
+      (λ (d : (k : ℕ) × (k < 16) × (across_from (next_across st i k) ≡ Some due)).
+      ⊎_elim
+      (λ (e : input_next st i best ≡ best). inl e)
+      (λ (e : input_next st i best ≡ max due (until_of (st.crossing i))). inr record { i = i; j = d.0; input_in = hi; output_in = d.1; t = due; is = d.2; at = e })
+      (least_is best (max due (until_of (st.crossing i)))))
+      (first_is (λ j. across_from (next_across st i j)) 16)
 
-  inputs_is : (n best : ℕ) → n ≤ st.plan.size.ports → (inputs_next st n best ≡ best) ⊎ DueAcross st (inputs_next st n best)
+  inputs_is : (n best : ℕ) → n ≤ st.plan.size.ports → best ≤ LAST_TICK → (inputs_next st n best ≡ best) ⊎ DueAcross st (inputs_next st n best)
   unfolding inputs_next
-  inputs_is zero best l = inl refl
-  inputs_is (suc n) best l =
+  inputs_is zero best l most = inl refl
+  inputs_is (suc n) best l most =
       ⊎_elim
-      (λ (e : input_next st n 16 (inputs_next st n best) ≡ inputs_next st n best).
-      ⊎_elim (λ (d : inputs_next st n best ≡ best). inl (e ∙ d)) (λ (d : DueAcross st (inputs_next st n best)). inr (subst (DueAcross st) (sym e) d)) (inputs_is n best (omega (arith, l))))
-      (λ (d : DueAcross st (input_next st n 16 (inputs_next st n best))). inr d)
-      (input_is n 16 (inputs_next st n best) (omega (arith, l)) (omega arith))
+      (λ (e : input_next st n (inputs_next st n best) ≡ inputs_next st n best).
+      ⊎_elim (λ (d : inputs_next st n best ≡ best). inl (e ∙ d)) (λ (d : DueAcross st (inputs_next st n best)). inr (subst (DueAcross st) (sym e) d)) (inputs_is n best (omega (arith, l)) most))
+      (λ (d : DueAcross st (input_next st n (inputs_next st n best))). inr d)
+      (input_is n (inputs_next st n best) (omega (arith, l)) (omega (arith, inputs_le st n best, most)))
 
-  column_is : (j n best : ℕ) → j < st.plan.size.ports → n ≤ 16 → busy_at st.clock (st.sending j) ≡ false → (column_next st j n best ≡ best) ⊎ DueOut st (column_next st j n best)
-  unfolding column_next
-  column_is j zero best hj l b = inl refl
-  column_is j (suc n) best hj l b =
-      ⊎_elim
-      (λ (e : sooner_of (column_next st j n best) 0 (out_from st.plan.size.longest (next_out st n j)) ≡ column_next st j n best).
-      ⊎_elim (λ (d : column_next st j n best ≡ best). inl (e ∙ d)) (λ (d : DueOut st (column_next st j n best)). inr (subst (DueOut st) (sym e) d)) (column_is j n best hj (omega (arith, l)) b))
-      (λ (d : (t : ℕ) × (out_from st.plan.size.longest (next_out st n j) ≡ Some t) × (sooner_of (column_next st j n best) 0 (out_from st.plan.size.longest (next_out st n j)) ≡ max t 0)).
-      inr (sends n j d.0 (omega (arith, l)) hj b d.1 (omega (arith, d.2))))
-      (sooner_is (column_next st j n best) 0 (out_from st.plan.size.longest (next_out st n j)))
-
-  output_is : (j best : ℕ) → j < st.plan.size.ports → (output_next st j best ≡ best) ⊎ DueOut st (output_next st j best)
-  output_is j best hj =
+  output_is : (j best : ℕ) → j < st.plan.size.ports → best ≤ LAST_TICK → (output_next st j best ≡ best) ⊎ DueOut st (output_next st j best)
+  output_is j best hj most =
       let x = until_of (st.sending j) - 1 in
-      let y = column_next st j 16 best in
+      let due = out_due st.plan.size.longest st.lists j in
       ⊎_elim
       (λ (b : busy_at st.clock (st.sending j) ≡ true).
-      let is : output_next st j best ≡ min best x = ap (λ v. cond v (min best x) y) b in
+      let is : output_next st j best ≡ min best x = ap (λ v. min best (cond v x due)) b in
       ⊎_elim
-      (λ (l : x < best). let e : min best x ≡ x = omega arith in inr (leaves j hj b (is ∙ e)))
-      (λ (l : best ≤ x). let e : min best x ≡ best = omega arith in inl (is ∙ e))
-      (cases_lt x best))
+      (λ (e : min best x ≡ best). inl (is ∙ e))
+      (λ (e : min best x ≡ x). inr (leaves j hj b (is ∙ e)))
+      (least_is best x))
       (λ (b : busy_at st.clock (st.sending j) ≡ false).
-      let is : output_next st j best ≡ y = ap (λ v. cond v (min best x) y) b in
-      subst (λ z. (z ≡ best) ⊎ DueOut st z) (sym is) (column_is j 16 best hj (omega arith) b))
+      let is : output_next st j best ≡ min best due = ap (λ v. min best (cond v x due)) b in
+      ⊎_elim
+      (λ (last : due ≡ LAST_TICK). let e : min best due ≡ best = omega (arith, last, most) in inl (is ∙ e))
+      (λ (d : (k : ℕ) × (k < 16) × (out_from st.plan.size.longest (next_out st k j) ≡ Some due)).
+      ⊎_elim
+      (λ (e : min best due ≡ best). inl (is ∙ e))
+      (λ (e : min best due ≡ due). inr (sends d.0 j due d.1 hj b d.2 (is ∙ e)))
+      (least_is best due))
+      (first_is (λ i. out_from st.plan.size.longest (next_out st i j)) 16))
       (cases_Bool (busy_at st.clock (st.sending j)))
 
-  outputs_is : (n best : ℕ) → n ≤ st.plan.size.ports → (outputs_next st n best ≡ best) ⊎ DueOut st (outputs_next st n best)
+  outputs_is : (n best : ℕ) → n ≤ st.plan.size.ports → best ≤ LAST_TICK → (outputs_next st n best ≡ best) ⊎ DueOut st (outputs_next st n best)
   unfolding outputs_next
-  outputs_is zero best l = inl refl
-  outputs_is (suc n) best l =
+  outputs_is zero best l most = inl refl
+  outputs_is (suc n) best l most =
       ⊎_elim
       (λ (e : output_next st n (outputs_next st n best) ≡ outputs_next st n best).
-      ⊎_elim (λ (d : outputs_next st n best ≡ best). inl (e ∙ d)) (λ (d : DueOut st (outputs_next st n best)). inr (subst (DueOut st) (sym e) d)) (outputs_is n best (omega (arith, l))))
+      ⊎_elim (λ (d : outputs_next st n best ≡ best). inl (e ∙ d)) (λ (d : DueOut st (outputs_next st n best)). inr (subst (DueOut st) (sym e) d)) (outputs_is n best (omega (arith, l)) most))
       (λ (d : DueOut st (output_next st n (outputs_next st n best))). inr d)
-      (output_is n (outputs_next st n best) (omega (arith, l)))
+      (output_is n (outputs_next st n best) (omega (arith, l)) (omega (arith, outputs_le st n best, most)))
 
 across_yes : (t x : ℕ) (o : Option Packet) → across_from o ≡ Some x → x ≤ t → mark_across t o ≡ None → ⊥
 across_yes t x None e l m = none-some _ e
@@ -271,7 +255,7 @@ still_for st limit k e =
           ⊎_elim
           (λ (in-best : ins ≡ best). omega (arith, out, in-best, at, below, still.soon))
           (λ (d : DueAcross st ins). due_across st ins (st.clock + k) d (omega (arith, at, out)) still)
-          (inputs_is st N best (omega arith)))
+          (inputs_is st N best (omega arith) (omega arith)))
           (λ (d : DueOut st (outputs_next st N ins)). due_out st (outputs_next st N ins) (st.clock + k) d at still)
-          (outputs_is st N ins (omega arith));
+          (outputs_is st N ins (omega arith) (omega (arith, inputs_le st N best)));
     }

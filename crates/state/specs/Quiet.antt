@@ -1,40 +1,29 @@
 -- Quiet ticks, in which nothing starts and nothing leaves, and how many of them follow.
-use Rattle.std.specs.Prelude.{◌≡◌, ℕ, zero, suc, ◌+◌, ◌-◌, ◌<◌, ◌≤◌, min, max, false, cond, List, [], ◌∷◌, Some, None, Option, ◌≢◌}
+use Rattle.std.specs.Prelude.{◌≡◌, ℕ, zero, suc, ◌+◌, ◌-◌, ◌<◌, ◌≤◌, min, max, false, cond, List, [], ◌∷◌, None, ◌≢◌}
 use Rattle.plan.specs.declared.fault.TheConstants.{LAST_TICK}
 use Rattle.law.specs.Plans.{plan_of}
 use Rattle.law.specs.Rules.{Rule}
 use Rattle.law.specs.Step.{Switch}
 use Rattle.law.specs.Runs.{Call, step, Answer, listed, Run}
 use Rattle.state.specs.State.{State}
-use Rattle.state.specs.Ready.{across_from, out_from}
+use Rattle.state.specs.Due.{across_due, out_due}
 use Rattle.state.specs.Lines.{until_of, busy_at}
 use Rattle.state.specs.Shows.{Moment, AllPromises}
 use Rattle.state.specs.Crosses.{mark_across, next_across}
 use Rattle.state.specs.Sends.{mark_out, next_out, Stepped}
 
--- the sooner of a tick `best`, and of one from which on something may happen, but not before `floor`
-abbrev pub sooner_of : ℕ → ℕ → Option ℕ → ℕ
-sooner_of best floor None = best
-sooner_of best floor (Some t) = min best (max t floor)
-
--- the first tick, up to `best`, at which input i may start something to one of the first n outputs
-unfoldable pub input_next : State → ℕ → ℕ → ℕ → ℕ
-input_next st i zero best = best
-input_next st i (suc n) best = sooner_of (input_next st i n best) (until_of (st.crossing i)) (across_from (next_across st i n))
+-- the first tick, up to `best`, at which input i may start something
+abbrev pub input_next : State → ℕ → ℕ → ℕ
+input_next st i best = min best (max (across_due st.lists st.ledgers i) (until_of (st.crossing i)))
 
 -- the same of the first n inputs
 unfoldable pub inputs_next : State → ℕ → ℕ → ℕ
 inputs_next st zero best = best
-inputs_next st (suc n) best = input_next st n 16 (inputs_next st n best)
-
--- the first tick, up to `best`, at which output j may start something from one of the first n inputs
-unfoldable pub column_next : State → ℕ → ℕ → ℕ → ℕ
-column_next st j zero best = best
-column_next st j (suc n) best = sooner_of (column_next st j n best) 0 (out_from st.plan.size.longest (next_out st n j))
+inputs_next st (suc n) best = input_next st n (inputs_next st n best)
 
 -- the first tick, up to `best`, at which output j may start something, or while it is busy, whose step lets its packet leave
 abbrev pub output_next : State → ℕ → ℕ → ℕ
-output_next st j best = cond (busy_at st.clock (st.sending j)) (min best (until_of (st.sending j) - 1)) (column_next st j 16 best)
+output_next st j best = min best (cond (busy_at st.clock (st.sending j)) (until_of (st.sending j) - 1) (out_due st.plan.size.longest st.lists j))
 
 -- the same of the first n outputs
 unfoldable pub outputs_next : State → ℕ → ℕ → ℕ
