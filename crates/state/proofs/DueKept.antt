@@ -1,14 +1,15 @@
 -- From when on each port may start something (`across_due`, `out_due`): what changes of one flow changes the ticks of its two
 -- ports alone, and before that tick a port starts nothing. Assumes nothing.
-use Rattle.std.proofs.Common.{◌≡◌, ℕ, ◌<◌, Bool, true, false, cond, ◌&&◌, eqb, List, length, get_or, set, Option, sym, refl, ap, ◌∙◌, subst, ⊎_elim, arith}
+use Rattle.std.proofs.Common.{◌≡◌, ℕ, ◌<◌, Bool, true, false, cond, ◌&&◌, eqb, List, length, get_or, set, Option, sym, refl, ap, ◌∙◌, subst, ⊎_elim, arith, [], replicate, None, suc, zero}
 use Rattle.std.specs.List.{slice_get}
 use Rattle.std.proofs.lemmas.Bool.{cases_eq, ne_eqb}
-use Rattle.std.proofs.lemmas.List.{get_or-set_same, get_or-set_other}
+use Rattle.std.proofs.lemmas.List.{get_or-set_same, get_or-set_other, get_or-replicate}
 use Rattle.grid.specs.Flows.{with_flow}
 use Rattle.store.specs.declared.packet.Packet.{Packet}
 use Rattle.state.specs.declared.line.Ledger.{Ledger}
+use Rattle.plan.specs.declared.fault.TheConstants.{LAST_TICK}
 use Rattle.state.specs.Ready.{across_from, out_from}
-use Rattle.state.specs.Due.{first_of, across_due, out_due, TellsAcross, TellsOut}
+use Rattle.state.specs.Due.{sooner_of, first_of, across_due, out_due, TellsAcross, TellsOut}
 
 -- the first of the same ticks is the same
 first_alike : (f g : ℕ → Option ℕ) → ((k : ℕ) → f k ≡ g k) → (n : ℕ) → first_of f n ≡ first_of g n
@@ -59,3 +60,22 @@ module _ (b : Bool) (lists after : ℕ → ℕ → List Packet) (a c : ℕ) (xs 
     where
       list_is : (i : ℕ) → (j ≡ c → ⊥) → after i j ≡ lists i j
       list_is i ne = ap (λ (t : ℕ → ℕ → List Packet). t i j) is ∙ other_column b lists a c xs i j ne
+
+-- with nothing stored nothing is due
+first_none : (f : ℕ → Option ℕ) → ((k : ℕ) → f k ≡ None) → (n : ℕ) → first_of f n ≡ LAST_TICK
+unfolding first_of
+first_none f none zero = refl
+first_none f none (suc n) = ap (sooner_of (first_of f n)) (none n) ∙ first_none f none n
+
+none_stored : (lists : ℕ → ℕ → List Packet) → lists ≡ (λ _ _. []) → (i j k : ℕ) → slice_get (lists i j) k ≡ None
+none_stored lists empty i j k = ap (λ (t : ℕ → ℕ → List Packet). slice_get (t i j) k) empty
+
+pub none_across : (lists : ℕ → ℕ → List Packet) (ledgers : ℕ → ℕ → Ledger) → lists ≡ (λ _ _. []) → TellsAcross lists ledgers (replicate 16 LAST_TICK)
+none_across lists ledgers empty i hi =
+    get_or-replicate 16 i LAST_TICK 0 hi
+    ∙ sym (first_none (λ j. across_from (slice_get (lists i j) (ledgers i j).under_way)) (λ j. ap across_from (none_stored lists empty i j (ledgers i j).under_way)) 16)
+
+pub none_out : (L : ℕ) (lists : ℕ → ℕ → List Packet) → lists ≡ (λ _ _. []) → TellsOut L lists (replicate 16 LAST_TICK)
+none_out L lists empty j hj =
+    get_or-replicate 16 j LAST_TICK 0 hj
+    ∙ sym (first_none (λ i. out_from L (slice_get (lists i j) 0)) (λ i. ap (out_from L) (none_stored lists empty i j 0)) 16)

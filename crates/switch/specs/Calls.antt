@@ -27,15 +27,15 @@ use Rattle.switch.specs.declared.running.Running.{Running}
 use Rattle.switch.specs.Shown.{shown}
 
 -- the state of a running switch
-abbrev pub state_of : {S R : Type 0} → (S → ℕ → ℕ → List Packet) → Running S R → State
+abbrev pub state_of : {S R : Type 0} {g : _} → (S → ℕ → ℕ → List Packet) → Running S R g → State
 state_of lists r = shown (lists r.store.store) r
 
 -- The store's stated size is as it was.
-abbrev pub KeepsSize : {S R : Type 0} → (S → ℕ) → Running S R → Running S R → Type 0
+abbrev pub KeepsSize : {S R : Type 0} {g : _} → (S → ℕ) → Running S R g → Running S R g → Type 0
 KeepsSize size before after = size after.store.store ≡ size before.store.store
 
 -- The store's stated size and the tie rule are as they were.
-pub record Keeps {S R : Type 0} (size : S → ℕ) (before after : Running S R) : Type 0 where
+pub record Keeps {S R : Type 0} {g : _} (size : S → ℕ) (before after : Running S R g) : Type 0 where
   pub size_kept : KeepsSize size before after
   pub rule_kept : after.rule ≡ before.rule
 
@@ -62,15 +62,15 @@ Shares before after i j w (Ok x) =
 Shares before after i j w (Err f) = (refusal_of before.plan i j w ≡ Some f) × (after ≡ before)
 
 -- A draft is sealed: the clock at 0, nothing inside, every line idle, the rule as it was. It is at the start of a run.
-pub record SealedAs {S R : Type 0} (lists : S → ℕ → ℕ → List Packet) (size : S → ℕ) (draft : Draft S R) (after : Running S R) : Type 0 where
+pub record SealedAs {S R : Type 0} {g : _} (lists : S → ℕ → ℕ → List Packet) (size : S → ℕ) (draft : Draft S R) (after : Running S R g) : Type 0 where
   pub state : state_of lists after ≡ sealed_state draft.plan
   pub stated_size : size after.store.store ≡ size draft.store.store
   pub rule : after.rule ≡ draft.rule
   pub law : Opens (size draft.store.store) (state_of lists after)
 
 -- A packet of b bytes comes to flow (i, j).
-pub record Arrives {S R : Type 0} (lists : S → ℕ → ℕ → List Packet) (full : S → ℕ → ℕ → Bool) (size : S → ℕ)
-    (before after : Running S R) (i j b : ℕ) (r : Result Unit ArriveFault) : Type 0 where
+pub record Arrives {S R : Type 0} {g : _} (lists : S → ℕ → ℕ → List Packet) (full : S → ℕ → ℕ → Bool) (size : S → ℕ)
+    (before after : Running S R g) (i j b : ℕ) (r : Result Unit ArriveFault) : Type 0 where
   pub answer : r ≡ arrive_answer (full before.store.store) (state_of lists before) i j b
   pub state : state_of lists after ≡ arrive_state r (state_of lists before) i j b
   pub refused : OnErr r (after ≡ before)
@@ -81,8 +81,8 @@ pub record Arrives {S R : Type 0} (lists : S → ℕ → ℕ → List Packet) (f
 
 -- A step, with the list for departures before and after it; of the rule, its answers from what it keeps and what it may keep
 -- once told a winner.
-pub record Steps {S R : Type 0} (lists : S → ℕ → ℕ → List Packet) (size : S → ℕ) (answer : R → Rule) (told : R → ℕ → ℕ → R → Type 0)
-    (before after : Running S R) (old new : List Departure) (r : Result ℕ StepFault) : Type 0 where
+pub record Steps {S R : Type 0} {g : _} (lists : S → ℕ → ℕ → List Packet) (size : S → ℕ) (answer : R → Rule) (told : R → ℕ → ℕ → R → Type 0)
+    (before after : Running S R g) (old new : List Departure) (r : Result ℕ StepFault) : Type 0 where
   pub exact : StepsSo answer told (state_of lists before) before.rule (state_of lists after) after.rule old new r
   pub refused : OnErr r ((after ≡ before) × (new ≡ old))
   pub entries : length new ≡ length old
@@ -92,15 +92,15 @@ pub record Steps {S R : Type 0} (lists : S → ℕ → ℕ → List Packet) (siz
       (size before.store.store) (state_of lists before) (state_of lists after) (step (length old)) (step_told r new)
 
 -- A question about flow (i, j).
-pub record Asks {S R : Type 0} (lists : S → ℕ → ℕ → List Packet) (size : S → ℕ) (running : Running S R) (i j : ℕ) (r : Result Numbers PortFault) : Type 0 where
+pub record Asks {S R : Type 0} {g : _} (lists : S → ℕ → ℕ → List Packet) (size : S → ℕ) (running : Running S R g) (i j : ℕ) (r : Result Numbers PortFault) : Type 0 where
   pub answer : r ≡ ask_answer (state_of lists running) i j
   pub law : CarriesOn (AskLeads (plan_of running.plan) i j r)
       (size running.store.store) (state_of lists running) (state_of lists running) (ask i j) (ask_told r)
 
 -- Ticks are passed in one go, none beyond the limit: only the clock moves, each tick passed is still and the next is not, and
 -- it is the same as that many steps that list nothing.
-pub record PassesQuiet {S R : Type 0} (lists : S → ℕ → ℕ → List Packet) (size : S → ℕ) (answer : R → Rule) (told : R → ℕ → ℕ → R → Type 0)
-    (before after : Running S R) (limit k : ℕ) : Type 0 where
+pub record PassesQuiet {S R : Type 0} {g : _} (lists : S → ℕ → ℕ → List Packet) (size : S → ℕ) (answer : R → Rule) (told : R → ℕ → ℕ → R → Type 0)
+    (before after : Running S R g) (limit k : ℕ) : Type 0 where
   pub ticks : k ≡ next_event (state_of lists before) limit - before.clock
   pub still : StillFor (state_of lists before) limit k
   pub state : state_of lists after ≡ at_tick (max before.clock (next_event (state_of lists before) limit)) (state_of lists before)

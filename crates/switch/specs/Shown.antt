@@ -6,7 +6,7 @@ use Rattle.state.specs.State.{State, ledger_in}
 use Rattle.switch.specs.declared.running.Running.{Running}
 
 -- with the lists of its store
-abbrev pub shown : {S R : Type 0} → (ℕ → ℕ → List Packet) → Running S R → State
+abbrev pub shown : {S R : Type 0} {g : _} → (ℕ → ℕ → List Packet) → Running S R g → State
 shown lists r = record {
   plan = r.plan;
   clock = r.clock;

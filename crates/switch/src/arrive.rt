@@ -48,6 +48,8 @@ impl<S: Store, R> Running<S, R> {
             ..ledger
         };
         set_ledger(&mut self.ledgers, flow, taken);
+        let longest = self.plan.size.longest;
+        self.due.renew(flow, &self.store, &self.ledgers, longest);
         Ok(())
     }
 }

@@ -90,6 +90,8 @@ impl<S: Store, R> Running<S, R> {
             ..ledger
         };
         set_ledger(&mut self.ledgers, flow, starting);
+        let longest = self.plan.size.longest;
+        self.due.renew(flow, &self.store, &self.ledgers, longest);
         self.crossing[flow.input] = Some(Busy {
             load: flow.output,
             until: self.clock.wrapping_add(bytes),
@@ -114,12 +116,16 @@ impl<S: Store, R: TieRule> Running<S, R> {
         self.rule.ask(code, &question())
     }
 
-    // An input's turn in a step: it starts what is chosen, and tells the rule.
+    // An input's turn in a step: it starts what is chosen, and tells the rule. Before something is due there nothing is tied, and
+    // no rule picks anything.
     fn cross(&mut self, port: Port)
         ensures turn { Crosses R.TieRule.answer R.TieRule.told port.index (state_of S.Store.lists self.old) self.old.rule (state_of S.Store.lists self.new) self.new.rule }
         ensures size { KeepsSize S.Store.size self.old self.new }
     {
         let input = port.index;
+        if self.clock < self.due.across[input] {
+            return;
+        }
         let line = self.crossing[input];
         let Some(output) = self.choose(line, input, || self.question_across(port)) else {
             return;

@@ -1,6 +1,7 @@
 //! A draft, in which shares are booked, and its seal.
 ghost use Rattle.switch.specs.Calls.{OpenedAs, OpenedOver, SealedAs, Shares};
 
+use crate::due::Due;
 use crate::running::Running;
 use plan::{Plan, ShareFault, Size};
 use state::Ledger;
@@ -60,6 +61,7 @@ impl<S: Store, R> Draft<S, R> {
             ledgers: [Ledger::default(); 256],
             store,
             rule,
+            due: Due::new(),
         }
     }
 }

@@ -40,6 +40,8 @@ impl<S: Store, R> Running<S, R> {
             ..ledger
         };
         set_ledger(&mut self.ledgers, flow, left);
+        let longest = self.plan.size.longest;
+        self.due.renew(flow, &self.store, &self.ledgers, longest);
         self.sending[output] = None;
         Some(load)
     }

@@ -9,6 +9,7 @@ mod arrive;
 mod ask;
 mod cross;
 mod draft;
+mod due;
 mod finish;
 mod flow;
 mod lines;

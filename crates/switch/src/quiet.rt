@@ -1,37 +1,22 @@
 //! Quiet ticks, in which nothing starts and nothing leaves.
 ghost use Rattle.std.specs.Prelude.{◌≡◌, ◌-◌, max};
 ghost use Rattle.switch.specs.Calls.{PassesQuiet, state_of};
-ghost use Rattle.state.specs.Quiet.{sooner_of, input_next, inputs_next, column_next, output_next, outputs_next, next_event, at_tick, StillFor, QuietSteps, Passes};
+ghost use Rattle.state.specs.Quiet.{input_next, inputs_next, output_next, outputs_next, next_event, at_tick, StillFor, QuietSteps, Passes};
 
 use crate::lines::{is_busy, until_of};
 use crate::port::{Port, fold_ports};
-use crate::ready::{across_from, out_from};
 use crate::running::Running;
 use plan::LAST_TICK;
 use store::Store;
 use tie::TieRule;
 
-// The sooner of a tick and of what may happen from another on, but not before `floor`.
-fn sooner(best: u64, floor: u64, from: Option<u128>) -> u64
-    ensures { result ≡ sooner_of best floor from }
-{
-    from.map_or(
-        best,
-        |tick| tick.max(u128::from(floor)).min(u128::from(best)) as u64,
-    )
-}
-
 impl<S: Store, R> Running<S, R> {
     // The first tick, up to `best`, at which an input may start something.
     fn next_at_input(&self, input: Port, best: u64) -> u64
-        ensures { result ≡ input_next (state_of S.Store.lists self.now) input.index 16 best }
+        ensures { result ≡ input_next (state_of S.Store.lists self.now) input.index best }
     {
         let until = until_of(self.crossing[input.index]);
-        fold_ports(
-            16,
-            best,
-            |next, output| sooner(next, until, across_from(self.next_across(input.to(output)))),
-        )
+        best.min(self.due.across[input.index].max(until))
     }
 
     // The same of all inputs.
@@ -45,27 +30,17 @@ impl<S: Store, R> Running<S, R> {
         )
     }
 
-    // The first tick, up to `best`, at which an output may start something.
-    fn next_in_column(&self, output: Port, best: u64) -> u64
-        ensures { result ≡ column_next (state_of S.Store.lists self.now) output.index 16 best }
-    {
-        let longest = self.plan.size.longest;
-        fold_ports(
-            16,
-            best,
-            |next, input| sooner(next, 0, out_from(self.next_out(input.to(output)), longest)),
-        )
-    }
-
-    // The same, or while the output is busy the tick whose step lets its packet leave.
+    // The first tick, up to `best`, at which an output may start something, or while it is busy, whose step lets its packet leave.
     fn next_at_output(&self, output: Port, best: u64) -> u64
         ensures { result ≡ output_next (state_of S.Store.lists self.now) output.index best }
     {
         let line = self.sending[output.index];
-        if is_busy(line, self.clock) {
-            return best.min(until_of(line).saturating_sub(1));
-        }
-        self.next_in_column(output, best)
+        let tick = if is_busy(line, self.clock) {
+            until_of(line).saturating_sub(1)
+        } else {
+            self.due.out[output.index]
+        };
+        best.min(tick)
     }
 
     // The same of all outputs.

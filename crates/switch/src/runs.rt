@@ -13,7 +13,7 @@ use store::Store;
 use tie::TieRule;
 
 /// The switch after a list of calls, and the answer of each.
-pub struct Performed<S, R> {
+pub struct Performed<S: Store, R> {
     pub running: Running<S, R>,
     pub answers: Vec<Answer>,
 }

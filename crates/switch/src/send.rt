@@ -117,6 +117,9 @@ impl<S: Store, R: TieRule> Running<S, R> {
         ensures store { self.new.store ≡ self.old.store }
     {
         let output = port.index;
+        if self.clock < self.due.out[output] {
+            return;
+        }
         let line = self.sending[output];
         let code = self.plan.size.ports + output;
         let Some(input) = self.choose(line, code, || self.question_out(port)) else {

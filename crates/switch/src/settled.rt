@@ -12,11 +12,11 @@ use store::Store;
 
 /// A switch after its last call, with all that it holds.
 #[derive(Drop)]
-pub struct Settled<S, R> {
+pub struct Settled<S: Store, R> {
     running: Running<S, R>,
 }
 
-impl<S, R> Running<S, R> {
+impl<S: Store, R> Running<S, R> {
     /// Ends the run, and keeps everything.
     pub fn settle(self) -> Settled<S, R>
         ensures { result.running ≡ self }
@@ -25,7 +25,7 @@ impl<S, R> Running<S, R> {
     }
 }
 
-impl<S, R> Settled<S, R> {
+impl<S: Store, R> Settled<S, R> {
     /// The plan that was sealed.
     pub fn plan(&self) -> &Plan
         ensures { result.now ≡ self.now.running.plan }

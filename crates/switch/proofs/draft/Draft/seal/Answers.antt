@@ -1,10 +1,17 @@
-use Rattle.std.proofs.Common.{◌≡◌, sym, refl, subst, ap, ◌∙◌, replicate}
+use Rattle.std.proofs.Common.{◌≡◌, get_or, sym, refl, subst, ap, ◌∙◌, replicate}
 use Rattle.grid.proofs.Flows.{flows_same}
 use Rattle.state.specs.declared.line.Ledger.{Ledger}
 use Rattle.state.specs.State.{fresh, ledger_in}
 use Rattle.state.specs.Seals.{Opens}
 use Rattle.state.proofs.SealCarries.{sealed_is, seal_opens}
+use Rattle.state.proofs.DueKept.{none_across, none_out}
 use Rattle.switch.proofs.draft.Draft.seal.Goals as goal
+
+pub invariant_of-result-clause-inputs_due : goal.invariant_of-result-clause-inputs_due
+invariant_of-result-clause-inputs_due g c i hi = ap (λ row. get_or row i 0) c.new.ensures.0 ∙ none_across (g.S.Store.lists c.clear.new.self.store) (ledger_in (replicate 256 c.default.result)) c.clear.ensures.lists i hi
+
+pub invariant_of-result-clause-outputs_due : goal.invariant_of-result-clause-outputs_due
+invariant_of-result-clause-outputs_due g c j hj = ap (λ row. get_or row j 0) c.new.ensures.1 ∙ none_out c.args.self.plan.size.longest (g.S.Store.lists c.clear.new.self.store) c.clear.ensures.lists j hj
 
 pub returns : goal.returns
 returns g c =
