@@ -13,25 +13,25 @@ use Rattle.carry.proofs.Extends.{out_on}
 
 module _ {S R : Type 0} (lists : S → ℕ → ℕ → List Packet) (size : S → ℕ) (plan : Plan) (kind : Kind R) (x : Replayed R) where
   -- the moment to which the ticks since x lead that the player's clock tells
-  abbrev pub since : Player S R → Replayed R
+  abbrev pub since : {g : _} → Player S R g → Replayed R
   since p = run_ticks plan kind (p.running.clock - x.switch.clock) x
 
-  pub since_itself : (p : Player S R) → Plays lists size plan x p → since p ≡ x
+  pub since_itself : {g : _} (p : Player S R g) → Plays lists size plan x p → since p ≡ x
   since_itself p at =
       let none : p.running.clock - x.switch.clock ≡ 0 = omega (arith, at.switch.moment.shows.clock_is) in
       ap (λ n. run_ticks plan kind n x) none ∙ ticks_none plan kind x
 
   -- the run from x on, out of which these ticks are taken
-  abbrev pub OutOf : Player S R → Type 0
+  abbrev pub OutOf : {g : _} → Player S R g → Type 0
   OutOf p = run_out plan kind (LAST_TICK - x.switch.clock) x ≡ run_out plan kind (LAST_TICK - p.running.clock) (since p)
 
-  pub out_at_first : (p : Player S R) → Plays lists size plan x p → OutOf p
+  pub out_at_first : {g : _} (p : Player S R g) → Plays lists size plan x p → OutOf p
   out_at_first p at =
       let clock = at.switch.moment.shows.clock_is in
       let left : LAST_TICK - x.switch.clock ≡ LAST_TICK - p.running.clock = omega (arith, clock) in
       ap (λ n. run_out plan kind n x) left ∙ ap (run_out plan kind (LAST_TICK - p.running.clock)) (sym (since_itself p at))
 
-  module _ (p : Player S R) (here : Plays lists size plan (since p) p) where
+  module _ {g : _} (p : Player S R g) (here : Plays lists size plan (since p) p) where
     -- x is no later
     pub no_earlier : x.switch.clock ≤ p.running.clock
     no_earlier = omega (arith, here.switch.moment.shows.clock_is, ticks_clock plan kind (p.running.clock - x.switch.clock) x)
@@ -60,7 +60,7 @@ module _ {S R : Type 0} (lists : S → ℕ → ℕ → List Packet) (size : S �
           ∙ out_on plan kind k (LAST_TICK - p.running.clock) (since p) (omega (arith, early)) (λ m l none. some (sym (same m l) ∙ none))
           ∙ ap (λ n. run_out plan kind n (run_ticks plan kind k (since p))) left
 
-      module _ (q : Player S R) (on : Plays lists size plan (run_ticks plan kind k (since p)) q) where
+      module _ (q : Player S R g) (on : Plays lists size plan (run_ticks plan kind k (since p)) q) where
         pub clock_later : q.running.clock ≡ p.running.clock + k
         clock_later = omega (arith, here.switch.moment.shows.clock_is, on.switch.moment.shows.clock_is, ticks_clock plan kind k (since p))
 

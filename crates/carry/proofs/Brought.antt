@@ -30,10 +30,10 @@ made_at p c f place is = sym (λ k. record { place = place k; cause = is k })
 
 module _ {S R : Type 0} (lists : S → ℕ → ℕ → List Packet) (size : S → ℕ) where
   -- the log tells the clock
-  pub clock_as_told : (plan : Plan) (y : Replayed R) (p : Player S R) → Plays lists size plan y p → clock_of y.log ≡ y.switch.clock
+  pub clock_as_told : (plan : Plan) (y : Replayed R) {g : _} (p : Player S R g) → Plays lists size plan y p → clock_of y.log ≡ y.switch.clock
   clock_as_told plan y p plays = (moment _ _ (plan_bookable p.running.plan) plays.switch.moment.run).clock_told
 
-  module _ (sign : Sign) (answer : R → Rule) (next : R → ℕ → ℕ → R) (first : R) (plan : Plan) (y : Replayed R) (q : Player S R) (a : Arrival) where
+  module _ (sign : Sign) (answer : R → Rule) (next : R → ℕ → ℕ → R) (first : R) (plan : Plan) (y : Replayed R) {g : _} (q : Player S R g) (a : Arrival) where
     abbrev after : Replayed R
     after = offered plan (kind_with sign answer next first) a y
 

@@ -13,16 +13,16 @@ use Rattle.player.specs.declared.player.Player.{Player}
 use Rattle.carry.specs.Lines.{peak_lines, last_line}
 use Rattle.carry.specs.Settles.{Settles}
 
-module _ {S R : Type 0} (lists : S → ℕ → ℕ → List Packet) (size : S → ℕ) (plan : Plan) (y : Replayed R) (p : Player S R) (plays : Plays lists size plan y p) where
+module _ {S R : Type 0} (lists : S → ℕ → ℕ → List Packet) (size : S → ℕ) (plan : Plan) (y : Replayed R) {g : _} (p : Player S R g) (plays : Plays lists size plan y p) where
   pub end_of : (tick bytes : ℕ) → tick ≡ p.running.clock → bytes ≡ p.bytes → bytes_in (left_in y.log) < 2 ^ 64 → end_text tick bytes ≡ last_line y
   end_of tick bytes t b few =
       let whole : bytes ≡ bytes_in (left_in y.log) = b ∙ plays.bytes ∙ mod-eq_of_lt few in
       let last = t ∙ plays.switch.moment.shows.clock_is in
       λ k. end_text (last k) (whole k)
 
-  module _ (settled : Settled S R) (same : settled.running ≡ p.running) where
+  module _ (settled : Settled S R g) (same : settled.running ≡ p.running) where
     settled_at : IsAt lists size plan y settled.running
-    settled_at = subst (λ (r : Running S R). IsAt lists size plan y r) (sym same) plays.switch
+    settled_at = subst (λ (r : Running S R g). IsAt lists size plan y r) (sym same) plays.switch
 
     pub settles : Settles lists settled y.switch
     settles = (size settled.running.store.store, y.log, settled_at.moment)

@@ -14,7 +14,7 @@ use Rattle.carry.proofs.Extends.{tells_more}
 
 module _ {S R : Type 0} (lists : S → ℕ → ℕ → List Packet) (size : S → ℕ) (plan : Plan) where
   -- at the moment y, whose events are those of x and these
-  pub reaches : {E : Type 0} (r : Result (Unit {0}) E) (x y : Replayed R) (q : Player S R) (es : List Event) → events_of y.log ≡ events_of x.log ++ es →
+  pub reaches : {E : Type 0} (r : Result (Unit {0}) E) (x y : Replayed R) {g : _} (q : Player S R g) (es : List Event) → events_of y.log ≡ events_of x.log ++ es →
       (before out after : List ℕ) (room more most : ℕ) → Plays lists size plan y q → Tells x before out room more true → Appends (event_lines es) out after more most (is_ok r) →
       Reaches lists size plan y q before after room most r
   reaches (Ok u) x y q es e before out after room more most plays t s = record { plays = plays; tells = tells_more x y es e before out after room more most _ t s }

@@ -107,7 +107,7 @@ module _ {K : Type 0} (kind : Kind K) (file : List ℕ) (is : List Item) (rest :
 module _ {S R : Type 0} (lists : S → ℕ → ℕ → List Packet) (size : S → ℕ) (kind : Kind R) (plan : Plan) (x y : Replayed R) (start rest : Rest) (clock : ℕ)
     (reads : (file : List ℕ) (is : List Item) → IsRead kind file is start 0 plan x → (js : List Item) × IsRead kind file js rest clock plan y × (head_in js ≡ head_in is))
     (packet : body.Arrival) (left : List ℕ) (e : next_item rest.length (Running clock) rest.bytes.now ≡ Ok (arrival packet, left)) (place : ℕ) (at : place ≡ rest.length - length rest.bytes.now)
-    (q : Player S R) (before after : List ℕ) (room most : ℕ) where
+    {g : _} (q : Player S R g) (before after : List ℕ) (room most : ℕ) where
   -- of the same head as what is read at the start
   as_begun : {h : Head} (file text : List ℕ) (is : List Item) → h ≡ head_in is → ListsAs kind h file text → ListsAs kind (head_in is) file text
   as_begun file text is same l = (l.0, l.1, l.2 ∙ same, l.3)

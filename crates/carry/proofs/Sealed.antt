@@ -31,7 +31,7 @@ use Rattle.carry.proofs.Grows.{append_none}
 use Rattle.carry.proofs.Orderly.{orderly}
 
 module _ {S R : Type 0} (lists : S → ℕ → ℕ → List Packet) (size : S → ℕ) (kind : Kind R) where
-  pub starts : (plan : Plan) (p : Player S R) → Plays lists size plan (at_start plan kind) p → (out : List ℕ) (room : ℕ) → IsUpTo lists size plan (at_start plan kind) p out out room room
+  pub starts : (plan : Plan) {g : _} (p : Player S R g) → Plays lists size plan (at_start plan kind) p → (out : List ℕ) (room : ℕ) → IsUpTo lists size plan (at_start plan kind) p out out room room
   starts plan p plays out room = record { plays = plays; tells = append_none out room }
 
   module _ (file : List ℕ) (h : Head) (plan : kit.Plan) (rest : Rest) (booked : BooksAt (Running 0) file h plan rest) where
@@ -48,7 +48,7 @@ module _ {S R : Type 0} (lists : S → ℕ → ℕ → List Packet) (size : S �
     of_head text l = (l.0, l.1, l.2 ∙ booked.head_is, l.3)
 
     -- where the arrivals stop the run
-    pub stops : {Z : Type 0} (q : Player S R) (before after : Vec ℕ Z) (stop : Stop) →
+    pub stops : {Z : Type 0} {g : _} (q : Player S R g) (before after : Vec ℕ Z) (stop : Stop) →
         ReadsOn lists size kind (plan_of plan) (at_start (plan_of plan) kind) rest q (vec_items before) (vec_items after) (vec_capacity before) (vec_capacity after) (Err stop) →
         Leaves (ListsAs kind h file) before after (Err stop)
     stops q before after (Refused f) (y, tells, lists-it) = (event_lines (events_of y.log), of_head _ (lists-it file booked.items start_read), tells)

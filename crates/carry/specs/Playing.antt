@@ -27,28 +27,28 @@ ticks_with_next st limit = min limit (max st.clock (next_event st limit) + 1) - 
 
 module _ {S R : Type 0} (lists : S → ℕ → ℕ → List Packet) (size : S → ℕ) where
   -- A player is at a moment of a replay, and what has happened is appended.
-  pub record IsUpTo (plan : Plan) (x : Replayed R) (p : Player S R) (before out : List ℕ) (room more : ℕ) : Type 0 where
+  pub record IsUpTo (plan : Plan) (x : Replayed R) {g : _} (p : Player S R g) (before out : List ℕ) (room more : ℕ) : Type 0 where
     pub plays : Plays lists size plan x p
     pub tells : Tells x before out room more true
 
   -- where a call leads that reaches the moment y, or finds no memory on the way
-  abbrev pub Reaches : {E : Type 0} → Plan → Replayed R → Player S R → (before after : List ℕ) → (room more : ℕ) → Result (Unit {0}) E → Type 0
+  abbrev pub Reaches : {g : _} → {E : Type 0} → Plan → Replayed R → Player S R g → (before after : List ℕ) → (room more : ℕ) → Result (Unit {0}) E → Type 0
   Reaches plan y q before after room more (Ok u) = IsUpTo plan y q before after room more
   Reaches plan y q before after room more (Err e) = Tells y before after room more false
 
 module _ {S R Z : Type 0} (store : StoreOf S) (rule : RuleOf R) where
   -- A player is at some moment of a replay, and what has happened is appended.
-  abbrev pub IsPlaying : Player S R → Vec ℕ Z → Type 0
+  abbrev pub IsPlaying : {g : _} → Player S R g → Vec ℕ Z → Type 0
   IsPlaying p out = (plan : Plan) × (x : Replayed R) × (before : List ℕ) × (room : ℕ) × IsUpTo store.lists store.size plan x p before (vec_items out) room (vec_capacity out)
 
   -- From any moment x at which `Soon` holds, a call plays on to the moment `on x`.
-  abbrev pub PlaysOn : {E : Type 0} → (Plan → Kind R → Replayed R → Replayed R) → (Replayed R → Type 0) → (p q : Player S R) → (old new : Vec ℕ Z) → Result (Unit {0}) E → Type 0
+  abbrev pub PlaysOn : {E : Type 0} → (Plan → Kind R → Replayed R → Replayed R) → (Replayed R → Type 0) → {g : _} (p q : Player S R g) → (old new : Vec ℕ Z) → Result (Unit {0}) E → Type 0
   PlaysOn on Soon p q old new r =
       (plan : Plan) (first : R) (x : Replayed R) (before : List ℕ) (room : ℕ) → IsUpTo store.lists store.size plan x p before (vec_items old) room (vec_capacity old) → Soon x →
       Reaches store.lists store.size plan (on plan (kind_of store rule first) x) q before (vec_items new) room (vec_capacity new) r
 
   -- A call plays on up to the next event and with its tick, or only to the limit: until its last tick as many packets are inside.
-  abbrev pub Advances : {E : Type 0} → ℕ → (p q : Player S R) → (old new : Vec ℕ Z) → Result (Unit {0}) E → Type 0
+  abbrev pub Advances : {E : Type 0} → ℕ → {g : _} (p q : Player S R g) → (old new : Vec ℕ Z) → Result (Unit {0}) E → Type 0
   Advances limit p q old new r =
       (plan : Plan) (first : R) (x : Replayed R) (before : List ℕ) (room : ℕ) → IsUpTo store.lists store.size plan x p before (vec_items old) room (vec_capacity old) →
       limit ≤ LAST_TICK →
@@ -58,7 +58,7 @@ module _ {S R Z : Type 0} (store : StoreOf S) (rule : RuleOf R) where
       × Reaches store.lists store.size plan (run_ticks plan kind k x) q before (vec_items new) room (vec_capacity new) r
 
   -- A call plays on to the end of a run, and appends the peaks and the end: if the bytes of what has left can be counted.
-  abbrev pub Ends : {E : Type 0} → Player S R → (old new : Vec ℕ Z) → Result (Unit {0}) E → Type 0
+  abbrev pub Ends : {g : _} → {E : Type 0} → Player S R g → (old new : Vec ℕ Z) → Result (Unit {0}) E → Type 0
   Ends p old new r =
       (plan : Plan) (first : R) (x : Replayed R) (before : List ℕ) (room : ℕ) → IsUpTo store.lists store.size plan x p before (vec_items old) room (vec_capacity old) →
       let y = run_out plan (kind_of store rule first) (LAST_TICK - x.switch.clock) x in

@@ -34,13 +34,13 @@ refused_by plan a = arrive_refusal plan.ports plan.longest plan.weight a.input a
 module _ {S R : Type 0} (lists : S → ℕ → ℕ → List Packet) (size : S → ℕ) where
   -- an arrival at the moment y: it is accepted or turned away; or the plan refuses it, at this place; or there is no memory
   -- for what happened before it, or for its own line
-  abbrev pub Brought : Plan → Kind R → Replayed R → Arrival → Player S R → ℕ → (before after : List ℕ) → (room most : ℕ) → Result (Unit {0}) Stop → Type 0
+  abbrev pub Brought : {g : _} → Plan → Kind R → Replayed R → Arrival → Player S R g → ℕ → (before after : List ℕ) → (room most : ℕ) → Result (Unit {0}) Stop → Type 0
   Brought plan kind y a q place before after room most (Ok u) = (refused_by plan a ≡ None) × IsUpTo lists size plan (offered plan kind a y) q before after room most
   Brought plan kind y a q place before after room most (Err (Refused f)) = (option_map (fault_at place) (option_map cause.Arrive (refused_by plan a)) ≡ Some f) × Tells y before after room most true
   Brought plan kind y a q place before after room most (Err (Memory e)) = Tells y before after room most false ⊎ ((refused_by plan a ≡ None) × Tells (offered plan kind a y) before after room most false)
 
 -- an arrival of a file, whose tick the clock has not passed: the ticks up to it are played before
-abbrev pub Brings : {S R Z : Type 0} → StoreOf S → RuleOf R → (p q : Player S R) → ℕ → file.Arrival → (old new : Vec ℕ Z) → Result (Unit {0}) Stop → Type 0
+abbrev pub Brings : {S R Z : Type 0} → StoreOf S → RuleOf R → {g : _} (p q : Player S R g) → ℕ → file.Arrival → (old new : Vec ℕ Z) → Result (Unit {0}) Stop → Type 0
 Brings {S} {R} store rule p q place packet old new r =
     (plan : Plan) (first : R) (x : Replayed R) (before : List ℕ) (room : ℕ) → IsUpTo store.lists store.size plan x p before (vec_items old) room (vec_capacity old) → x.switch.clock ≤ packet.tick →
     Brought store.lists store.size plan (kind_of store rule first) (run_to plan (kind_of store rule first) packet.tick x) (arriving packet) q place before (vec_items new) room (vec_capacity new) r
@@ -59,7 +59,7 @@ ListsAs kind h file text = (o : Outcome) × Comes refuses file o × (head_in (it
 module _ {S R : Type 0} (lists : S → ℕ → ℕ → List Packet) (size : S → ℕ) (kind : Kind R) where
   -- where the reading on leads: to the end record, and the moment y of the run; to a refusal, with what happened up to it; or
   -- to no memory for the file's listing
-  abbrev pub ReadsOn : Plan → Replayed R → Rest → Player S R → (before after : List ℕ) → (room most : ℕ) → Result (Unit {0}) Stop → Type 0
+  abbrev pub ReadsOn : {g : _} → Plan → Replayed R → Rest → Player S R g → (before after : List ℕ) → (room most : ℕ) → Result (Unit {0}) Stop → Type 0
   ReadsOn plan x rest q before after room most (Ok u) =
       (y : Replayed R) × IsUpTo lists size plan y q before after room most
       × ((file : List ℕ) (is : List Item) → IsRead kind file is rest 0 plan x →
@@ -71,7 +71,7 @@ module _ {S R : Type 0} (lists : S → ℕ → ℕ → List Packet) (size : S �
       (file : List ℕ) (is : List Item) → IsRead kind file is rest 0 plan x → (text : List ℕ) × ListsAs kind (head_in is) file text × Appends text before after room most false
 
 -- the arrivals of a file are played from tick 0 of its run up to its end record
-abbrev pub Arrives : {S R Z : Type 0} → StoreOf S → RuleOf R → (p q : Player S R) → Rest → (old new : Vec ℕ Z) → Result (Unit {0}) Stop → Type 0
+abbrev pub Arrives : {S R Z : Type 0} → StoreOf S → RuleOf R → {g : _} (p q : Player S R g) → Rest → (old new : Vec ℕ Z) → Result (Unit {0}) Stop → Type 0
 Arrives {S} {R} store rule p q rest old new r =
     (plan : Plan) (first : R) (x : Replayed R) (before : List ℕ) (room : ℕ) → IsUpTo store.lists store.size plan x p before (vec_items old) room (vec_capacity old) → x.switch.clock ≡ 0 →
     ReadsOn store.lists store.size (kind_of store rule first) plan x rest q before (vec_items new) room (vec_capacity new) r

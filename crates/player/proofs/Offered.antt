@@ -51,7 +51,7 @@ never_full false b c e = cc
 
 module _ {S R : Type 0} (lists : S → ℕ → ℕ → List Packet) (full : S → ℕ → ℕ → Bool) (size : S → ℕ) (kind : Kind R)
     (signs : (store : S) (plan : Plan) (s : Switch) → Holds (lists store) plan s → (i j : ℕ) → i < plan.ports → j < plan.ports → full store i j ≡ kind.sign plan s i j)
-    (before after : Running S R) (i j b t : ℕ) (x : Replayed R) (at : IsAt lists size (plan_of before.plan) x before) where
+    {g : _} (before after : Running S R g) (i j b t : ℕ) (x : Replayed R) (at : IsAt lists size (plan_of before.plan) x before) where
   abbrev booked : Plan
   booked = plan_of before.plan
 
@@ -123,7 +123,7 @@ module _ {S R : Type 0} (lists : S → ℕ → ℕ → List Packet) (full : S �
       let here : IsAt lists size booked y before =
       record {
         plan_is = refl;
-        moment = subst (λ (z : Running S R). Moment M (state_of lists z) y.log y.switch) s.refused (subst (λ (z : Switch). Moment M (state_of lists after) y.log z) carried.1.leads carried.2);
+        moment = subst (λ (z : Running S R g). Moment M (state_of lists z) y.log y.switch) s.refused (subst (λ (z : Switch). Moment M (state_of lists after) y.log z) carried.1.leads carried.2);
         rule = at.rule;
       } in
       record {
@@ -141,7 +141,7 @@ module _ {S R : Type 0} (lists : S → ℕ → ℕ → List Packet) (full : S �
 
 module _ {S R : Type 0} (lists : S → ℕ → ℕ → List Packet) (full : S → ℕ → ℕ → Bool) (size : S → ℕ) (kind : Kind R)
     (signs : (store : S) (plan : Plan) (s : Switch) → Holds (lists store) plan s → (i j : ℕ) → i < plan.ports → j < plan.ports → full store i j ≡ kind.sign plan s i j)
-    (p q : Player S R) (i j b t : ℕ) where
+    {g : _} (p q : Player S R g) (i j b t : ℕ) where
   abbrev came : Arrival
   came = record { tick = t; input = i; output = j; bytes = b }
 
@@ -198,7 +198,7 @@ module _ {S R : Type 0} (lists : S → ℕ → ℕ → List Packet) (full : S �
 
 module _ {S R : Type 0} (lists : S → ℕ → ℕ → List Packet) (full : S → ℕ → ℕ → Bool) (size : S → ℕ) (sign : Sign) (answer : R → Rule) (next : R → ℕ → ℕ → R) (first : R)
     (signs : (store : S) (plan : Plan) (s : Switch) → Holds (lists store) plan s → (i j : ℕ) → i < plan.ports → j < plan.ports → full store i j ≡ sign plan s i j)
-    (p q : Player S R) (i j b t : ℕ) (inside-is : q.inside ≡ p.inside) (bytes-is : q.bytes ≡ p.bytes) where
+    {g : _} (p q : Player S R g) (i j b t : ℕ) (inside-is : q.inside ≡ p.inside) (bytes-is : q.bytes ≡ p.bytes) where
   -- what a refusal tells, at the plan of the switch
   abbrev Tells : ArriveFault → Plan → Replayed R → Type 0
   Tells f v x = Plays lists size v x p → Answers lists size sign answer next v first x q record { tick = t; input = i; output = j; bytes = b } (Err f)

@@ -64,7 +64,7 @@ module _ {K : Type 0} (kind : Kind K) (told : K → ℕ → ℕ → K → Type 0
 
 module _ {S R : Type 0} (lists : S → ℕ → ℕ → List Packet) (size : S → ℕ) (kind : Kind R) (told : R → ℕ → ℕ → R → Type 0)
     (only : KeepsNext told kind.next) (picks : (kept : R) → PicksTied (kind.answer kept))
-    (p q : Player S R) (limit k : ℕ) (s : PassesQuiet lists size kind.answer told p.running q.running limit k)
+    {g : _} (p q : Player S R g) (limit k : ℕ) (s : PassesQuiet lists size kind.answer told p.running q.running limit k)
     (inside-is : q.inside ≡ p.inside) (bytes-is : q.bytes ≡ p.bytes) where
   abbrev PlaysQuiet : Plan → Replayed R → Type 0
   PlaysQuiet plan x = Plays lists size plan (run_ticks plan kind k x) q × IsQuiet plan kind x k × (x.switch.clock + k ≤ max x.switch.clock (min limit LAST_TICK))

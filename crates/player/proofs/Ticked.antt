@@ -58,7 +58,7 @@ module _ {K : Type 0} (kind : Kind K) (told : K → ℕ → ℕ → K → Type 0
 module _ {S R : Type 0} (lists : S → ℕ → ℕ → List Packet) (size : S → ℕ) (kind : Kind R) (told : R → ℕ → ℕ → R → Type 0)
     (only : KeepsNext told kind.next) where
   -- a player after a step is at the moment after the tick
-  module _ (p q : Player S R) (old new : List Departure) (long : length old ≡ p.running.plan.size.ports) where
+  module _ {g : _} (p q : Player S R g) (old new : List Departure) (long : length old ≡ p.running.plan.size.ports) where
     pub plays_on : (count : ℕ) → Steps lists size kind.answer told p.running q.running old new (Ok count) →
         take q.count q.list ≡ take count new → q.inside ≡ p.inside - count → q.bytes ≡ (p.bytes + bytes_in (take count new)) % 2 ^ 64 →
         (plan : Plan) (x : Replayed R) → Plays lists size plan x p →

@@ -22,17 +22,17 @@ kind_of store rule first = kind_with store.sign rule.answer rule.next first
 
 module _ {S R : Type 0} (store : StoreOf S) (rule : RuleOf R) where
   -- a player made of a draft is at the start of its replay
-  abbrev pub Begins : Draft S R → Player S R → Type 0
+  abbrev pub Begins : {g : _} → Draft S R → Player S R g → Type 0
   Begins draft p =
       let plan = plan_of draft.plan in
       Plays store.lists store.size plan (at_start plan (kind_with store.sign rule.answer rule.next draft.rule)) p
 
   -- what a tick makes of a player, the passing of quiet ticks, and an arrival
-  abbrev pub TicksOn : Player S R → Player S R → Type 0
+  abbrev pub TicksOn : {g : _} → Player S R g → Player S R g → Type 0
   TicksOn before after = Ticks store.lists store.size store.sign rule.answer rule.next before after
 
-  abbrev pub PassesOn : Player S R → Player S R → ℕ → ℕ → Type 0
+  abbrev pub PassesOn : {g : _} → Player S R g → Player S R g → ℕ → ℕ → Type 0
   PassesOn before after limit k = Passes store.lists store.size store.sign rule.answer rule.next before after limit k
 
-  abbrev pub OffersTo : Player S R → Player S R → ℕ → ℕ → ℕ → Result (Unit {0}) ArriveFault → Type 0
+  abbrev pub OffersTo : {g : _} → Player S R g → Player S R g → ℕ → ℕ → ℕ → Result (Unit {0}) ArriveFault → Type 0
   OffersTo before after i j b r = Offers store.lists store.size store.sign rule.answer rule.next before after i j b r

@@ -25,17 +25,17 @@ abbrev pub kind_with : {R : Type 0} → Sign → (R → Rule) → (R → ℕ →
 kind_with sign answer next first = record { sign = sign; first = first; answer = answer; next = next }
 
 -- what left in the last tick
-abbrev pub left_now : {S R : Type 0} → Player S R → List Departure
+abbrev pub left_now : {S R : Type 0} {g : _} → Player S R g → List Departure
 left_now p = take p.count p.list
 
 -- The switch stands for that of a replay at a moment, by the same log, and its rule keeps the same.
-pub record IsAt {S R : Type 0} (lists : S → ℕ → ℕ → List Packet) (size : S → ℕ) (plan : Plan) (x : Replayed R) (running : Running S R) : Type 0 where
+pub record IsAt {S R : Type 0} (lists : S → ℕ → ℕ → List Packet) (size : S → ℕ) (plan : Plan) (x : Replayed R) {g : _} (running : Running S R g) : Type 0 where
   pub plan_is : plan_of running.plan ≡ plan
   pub moment : Moment (size running.store.store) (state_of lists running) x.log x.switch
   pub rule : running.rule ≡ x.kept
 
 -- A player at that moment: so is its switch, and its counts are those of the replay.
-pub record Plays {S R : Type 0} (lists : S → ℕ → ℕ → List Packet) (size : S → ℕ) (plan : Plan) (x : Replayed R) (p : Player S R) : Type 0 where
+pub record Plays {S R : Type 0} (lists : S → ℕ → ℕ → List Packet) (size : S → ℕ) (plan : Plan) (x : Replayed R) {g : _} (p : Player S R g) : Type 0 where
   pub switch : IsAt lists size plan x p.running
   pub inside : p.inside ≡ all_inside plan x.switch
   pub bytes : p.bytes ≡ bytes_in (left_in x.log) % 2 ^ 64
@@ -47,7 +47,7 @@ pub record IsQuiet {K : Type 0} (plan : Plan) (kind : Kind K) (x : Replayed K) (
 
 module _ {S R : Type 0} (lists : S → ℕ → ℕ → List Packet) (size : S → ℕ) (sign : Sign) (answer : R → Rule) (next : R → ℕ → ℕ → R) where
   -- a tick of a replay, before the clock's last: what leaves is listed
-  abbrev pub Ticks : Player S R → Player S R → Type 0
+  abbrev pub Ticks : {g : _} → Player S R g → Player S R g → Type 0
   Ticks before after =
       (plan : Plan) (first : R) (x : Replayed R) → Plays lists size plan x before → x.switch.clock < LAST_TICK →
       Plays lists size plan (run_tick plan (kind_with sign answer next first) x) after
@@ -55,7 +55,7 @@ module _ {S R : Type 0} (lists : S → ℕ → ℕ → List Packet) (size : S �
 
   -- k ticks of a replay are passed, all those up to the limit that come before the switch's next event: they are quiet, and none
   -- is beyond the limit; in the last of them, if there is one, nothing left
-  abbrev pub Passes : Player S R → Player S R → ℕ → ℕ → Type 0
+  abbrev pub Passes : {g : _} → Player S R g → Player S R g → ℕ → ℕ → Type 0
   Passes before after limit k =
       (k ≡ next_event (state_of lists before.running) limit - before.running.clock)
       × (left_now after ≡ cond (k == 0) (left_now before) [])
@@ -66,7 +66,7 @@ module _ {S R : Type 0} (lists : S → ℕ → ℕ → List Packet) (size : S �
 
   -- what an arrival answers: a lawful one is accepted where the store's sign is down, and turned away where it is up; any other
   -- is refused by the plan, and nothing changes
-  abbrev pub Answers : Plan → R → Replayed R → Player S R → Arrival → Result (Unit {0}) ArriveFault → Type 0
+  abbrev pub Answers : {g : _} → Plan → R → Replayed R → Player S R g → Arrival → Result (Unit {0}) ArriveFault → Type 0
   Answers plan first x after a (Ok u) =
       (arrive_refusal plan.ports plan.longest plan.weight a.input a.output a.bytes ≡ None) × (sign plan x.switch a.input a.output ≡ false) × Plays lists size plan (offered plan (kind_with sign answer next first) a x) after
   Answers plan first x after a (Err Full) =
@@ -76,7 +76,7 @@ module _ {S R : Type 0} (lists : S → ℕ → ℕ → List Packet) (size : S �
   Answers plan first x after a (Err Closed) = (arrive_refusal plan.ports plan.longest plan.weight a.input a.output a.bytes ≡ Some Closed) × Plays lists size plan x after
 
   -- an arrival in the present tick
-  abbrev pub Offers : Player S R → Player S R → ℕ → ℕ → ℕ → Result (Unit {0}) ArriveFault → Type 0
+  abbrev pub Offers : {g : _} → Player S R g → Player S R g → ℕ → ℕ → ℕ → Result (Unit {0}) ArriveFault → Type 0
   Offers before after i j b r =
       (plan : Plan) (first : R) (x : Replayed R) → Plays lists size plan x before →
       (t : ℕ) → Answers plan first x after record { tick = t; input = i; output = j; bytes = b } r

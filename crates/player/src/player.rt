@@ -5,11 +5,12 @@ ghost use Rattle.replay.specs.Events.{bytes_in};
 use crate::named::{NamedRule, NamedStore};
 use departure::Departure;
 use plan::ArriveFault;
+use store::Store;
 use switch::{Draft, Running, Settled};
 
 /// A running switch with what left in its last tick, and its packets inside and its departed bytes, counted.
 #[derive(Drop)]
-pub struct Player<S, R> {
+pub struct Player<S: Store, R> {
     running: Running<S, R>,
     // An array with its count, since a step fills the array where it stands: a vector would be filled from a second array.
     list: [Departure; 16],
@@ -80,7 +81,7 @@ impl<S: NamedStore, R: NamedRule> Player<S, R> {
     }
 }
 
-impl<S, R> Player<S, R> {
+impl<S: Store, R> Player<S, R> {
     ghost use Rattle.player.specs.Plays.{left_now};
 
     /// What left in the last tick, by output.
