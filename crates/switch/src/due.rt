@@ -32,14 +32,13 @@ fn sooner(best: u64, tick: Option<u128>) -> u64
 fn across_due<S: Store>(store: &Numbered<S>, ledgers: &[Ledger; 256], input: Port) -> u64
     ensures { result ≡ across_due (S.Store.lists store.now.store) (ledger_in ledgers.now) input.index }
 {
-    fold_ports(
-        16,
-        LAST_TICK,
-        |next, output| {
-            let under_way = ledger_at(ledgers, input.to(output)).under_way;
-            sooner(next, across_from(store.look(input.index, output.index, under_way)))
-        },
-    )
+    fold_ports(16, LAST_TICK, |next, output| {
+        let under_way = ledger_at(ledgers, input.to(output)).under_way;
+        sooner(
+            next,
+            across_from(store.look(input.index, output.index, under_way)),
+        )
+    })
 }
 
 // That of an output.
@@ -49,7 +48,10 @@ fn out_due<S: Store>(store: &Numbered<S>, longest: u32, output: Port) -> u64
     fold_ports(
         16,
         LAST_TICK,
-        |next, input| sooner(next, out_from(store.look(input.index, output.index, 0), longest)),
+        |next, input| sooner(
+            next,
+            out_from(store.look(input.index, output.index, 0), longest),
+        ),
     )
 }
 
