@@ -1,5 +1,5 @@
 //! The plan that a run file books.
-ghost use Rattle.std.specs.Prelude.{◌≡◌, ℕ, ◌-◌, List, [], ◌∷◌, Some, None, MatchResult};
+ghost use Rattle.std.specs.Prelude.{◌≡◌, ℕ, ◌-◌, List, [], ◌∷◌, Some, None, MatchResult, OnErr};
 ghost use Rattle.std.specs.Option.{option_map};
 ghost use Rattle.runfile.specs.Order.{Item, Booking as Open, Running};
 ghost use Rattle.runfile.specs.Order as order;
@@ -24,9 +24,10 @@ fn open_plan(head: Head) -> Result<Plan, Fault>
     Ok(Plan::new(size))
 }
 
-// Books the share of the record at this place.
+// Books the share of the record at this place. A refused one leaves the plan as it was.
 fn book_share(plan: &mut Plan, place: usize, share: Share) -> Result<(), Fault>
-    ensures { (is : List Item) → Books is plan.old → MatchResult result (λ _. (refuses is (order.share share) ≡ None) × Books (order.share share ∷ is) plan.new) (λ f. option_map (fault_at place) (refuses is (order.share share)) ≡ Some f) }
+    ensures booked { (is : List Item) → Books is plan.old → MatchResult result (λ _. (refuses is (order.share share) ≡ None) × Books (order.share share ∷ is) plan.new) (λ f. option_map (fault_at place) (refuses is (order.share share)) ≡ Some f) }
+    ensures kept { OnErr result (plan.new ≡ plan.old) }
 {
     plan.share(
         usize::from(share.input),

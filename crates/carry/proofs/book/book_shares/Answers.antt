@@ -25,14 +25,14 @@ returns-in_err-book_share c file h b =
     let next = c.in_ok-share.ensures.0 ∙ ap (λ (o : Option Share). Ok (booking_item o, left.bytes.now)) c.in-Some.is in
     rw (p.1, p.2)
     (plan_denies file at.items c.loop-share.rest Booking at.phase_is at.stands goes at.no_arrivals (share c.in-Some.share) refl left.bytes.now
-    c.place-place.result _ next c.place-place.ensures (c.in_err-book_share.ensures at.items at.books))
+    c.place-place.result _ next c.place-place.ensures (c.in_err-book_share.ensures.booked at.items at.books))
 
 pub loop-share-preserved : goal.loop-share-preserved
 loop-share-preserved c file h b =
     let at = c.loop-share.invariant file h b in
     let left = c.in_ok-share.left in
     let next = c.in_ok-share.ensures.0 ∙ ap (λ (o : Option Share). Ok (booking_item o, left.bytes.now)) c.in-Some.is in
-    let booked = c.in_ok-book_share.ensures at.items at.books in
+    let booked = c.in_ok-book_share.ensures.booked at.items at.books in
     record {
       items = share c.in-Some.share ∷ at.items;
       phase_is = refl;
