@@ -6,18 +6,15 @@ ghost use Rattle.carry.specs.Lines.{event_line, event_lines, refused_line};
 ghost use Rattle.carry.specs.Lists.{Adds};
 
 use departure::Departure;
-use listing::{Full, LONGEST_LINE, Line, Refusal};
+use listing::{Full, Line, Refusal};
 use runfile::{Arrival, Fault};
 use std::alloc::AllocError;
 
 /// Appends a line.
-pub fn push<L: Line>(out: &mut Vec<u8>, line: &L) -> Result<(), AllocError>
+pub fn push<const N: usize, L: Line<N>>(out: &mut Vec<u8>, line: &L) -> Result<(), AllocError>
     ensures { Adds (L.text line.now) out.old out.new (is_ok result) }
 {
-    // an array and the length of its line: what `write` fills, and answers
-    let mut text = [0; LONGEST_LINE];
-    let n = line.write(&mut text).unwrap();
-    out.extend_from_slice(&text[..n])
+    line.append(out)
 }
 
 /// The `D` lines of packets that leave, one after another.

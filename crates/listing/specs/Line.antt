@@ -1,7 +1,6 @@
 -- What each line of the listing says, byte by byte, and what a call that writes one leaves in the caller's buffer.
 use Rattle.std.specs.Prelude.{◌≡◌, ℕ, ◌<◌, ◌≤◌, List, [], ◌∷◌, ◌++◌, length, drop, Ok, Err, decimal, Result}
 use Rattle.std.specs.List.{flat_map}
-use Rattle.std.proofs.Math.Seq.{paste}
 use Rattle.departure.specs.declared.Departure.{Departure}
 use Rattle.listing.specs.declared.LineFault.{LineFault}
 use Rattle.listing.specs.declared.LineFault.TheVariants.{ShortBuffer}
@@ -35,10 +34,6 @@ refusal_text layer number place = line_of 82 (layer ∷ number ∷ place ∷ [])
 pub record Writes (line before after : List ℕ) (r : Result ℕ LineFault) : Type 0 where
   pub fits : length line ≤ length before → (r ≡ Ok (length line)) × (after ≡ line ++ drop (length line) before)
   pub short : length before < length line → (r ≡ Err ShortBuffer) × (after ≡ before)
-
--- the buffer with `text` over what stood from `at` on
-abbrev pub put : List ℕ → ℕ → List ℕ → List ℕ
-put before at text = paste before at text (length text)
 
 -- the number by which a fault is told
 abbrev pub fault_number : LineFault → ℕ

@@ -1,4 +1,4 @@
-//! The lines of a switch's listing, written into the caller's buffer.
+//! The lines of a switch's listing, written into the caller's buffer or appended to a vector.
 //!
 //! A line is one capital letter, its fields in order, and a line feed. A field is one space and an unsigned decimal
 //! number with no leading zero.
@@ -11,15 +11,17 @@
 //!     R  layer, number, place: a refusal
 //!
 //! Each kind of line is a type, and `write` of the trait `Line` answers the length of the line. Where the buffer is shorter,
-//! it refuses and leaves the buffer as it was.
+//! it refuses and leaves the buffer as it was. `append` refuses only for want of memory, and then leaves the vector holding
+//! what it held.
 #![tactic(auto)]
 
-ghost use Rattle.std.specs.Prelude.{◌≡◌, ℕ, ◌<◌, ◌≤◌, List, true, length, is_ok};
+ghost use Rattle.std.proofs.Common.{rules};
+ghost use Rattle.std.specs.Prelude.{◌≡◌, ℕ, ◌+◌, ◌<◌, ◌≤◌, List, ◌++◌, true, length, drop, is_ok, if◌then◌else◌, vec_capacity, decimal};
+ghost use Rattle.std.specs.Result.{OnErr};
 ghost use Rattle.listing.specs.Line.{departure_text, end_text, fault_number, full_text, line_of, peak_text, refusal_text, Writes};
 
-use arrayvec::ArrayString;
 pub use departure::Departure;
-use itoa::Buffer;
+use std::alloc::AllocError;
 
 /// No line is longer: a letter, nine fields of a space and at most twenty digits, a line feed.
 pub const LONGEST_LINE: usize = 191;
@@ -40,22 +42,47 @@ impl LineFault {
     }
 }
 
-/// A line of the listing.
-pub trait Line {
+/// A line of the listing, of `N` fields.
+pub trait Line<const N: usize> {
     ghost text: { Self → List ℕ };
 
+    /// The letter and the fields.
+    fn parts(&self) -> (u8, [u64; N])
+        ensures { line_of result.0 result.1 ≡ text self.now };
+
+    // A line has at most nine fields.
+    ghost few: { N ≤ 9 };
+
     /// Writes the line to the front of a buffer that has room for all of it.
-    fn write(&self, out: &mut [u8]) -> Result<usize, LineFault>
+    final fn write(&self, out: &mut [u8]) -> Result<usize, LineFault>
         ensures written { Writes (text self.now) out.old out.new result }
-        ensures room { LONGEST_LINE ≤ length out.old → is_ok result ≡ true };
+        ensures room { LONGEST_LINE ≤ length out.old → is_ok result ≡ true }
+    {
+        let (letter, fields) = self.parts();
+        write_line(out, letter, &fields)
+    }
+
+    /// Appends the line to a vector.
+    final fn append(&self, out: &mut Vec<u8>) -> Result<(), AllocError>
+        ensures items { out.new.items ≡ (if is_ok result then out.old.items ++ text self.now else out.old.items) }
+        ensures full { OnErr result (vec_capacity out.old < length out.old.items + length (text self.now)) }
+        ensures capacity { vec_capacity out.old ≤ vec_capacity out.new }
+    {
+        let (letter, fields) = self.parts();
+        let mut bytes = [0; LONGEST_LINE];
+        let start = compose(letter, &fields, &mut bytes);
+        out.extend_from_slice(&bytes[start..])
+    }
 }
 
 /// The `D` line.
-impl Line for Departure {
+impl Line<9> for Departure {
     ghost text = { departure_text };
 
+    ghost few = { Prim.search rules };
+
     // a port is widened by `as`: no number is made of a usize by From
-    fn write(&self, out: &mut [u8]) -> Result<usize, LineFault> {
+    fn parts(&self) -> (u8, [u64; 9]) {
         let fields = [
             self.tick,
             self.input as u64,
@@ -67,7 +94,7 @@ impl Line for Departure {
             self.whole,
             self.numerator,
         ];
-        write_line(out, 'D', &fields)
+        (b'D', fields)
     }
 }
 
@@ -80,11 +107,13 @@ pub struct Full {
     pub len: u64,
 }
 
-impl Line for Full {
+impl Line<4> for Full {
     ghost text = { λ l. full_text l.tick l.input l.output l.len };
 
-    fn write(&self, out: &mut [u8]) -> Result<usize, LineFault> {
-        write_line(out, 'N', &[self.tick, self.input, self.output, self.len])
+    ghost few = { Prim.search rules };
+
+    fn parts(&self) -> (u8, [u64; 4]) {
+        (b'N', [self.tick, self.input, self.output, self.len])
     }
 }
 
@@ -96,11 +125,13 @@ pub struct Peak {
     pub peak: u64,
 }
 
-impl Line for Peak {
+impl Line<3> for Peak {
     ghost text = { λ l. peak_text l.input l.output l.peak };
 
-    fn write(&self, out: &mut [u8]) -> Result<usize, LineFault> {
-        write_line(out, 'X', &[self.input, self.output, self.peak])
+    ghost few = { Prim.search rules };
+
+    fn parts(&self) -> (u8, [u64; 3]) {
+        (b'X', [self.input, self.output, self.peak])
     }
 }
 
@@ -111,11 +142,13 @@ pub struct End {
     pub bytes: u64,
 }
 
-impl Line for End {
+impl Line<2> for End {
     ghost text = { λ l. end_text l.tick l.bytes };
 
-    fn write(&self, out: &mut [u8]) -> Result<usize, LineFault> {
-        write_line(out, 'E', &[self.tick, self.bytes])
+    ghost few = { Prim.search rules };
+
+    fn parts(&self) -> (u8, [u64; 2]) {
+        (b'E', [self.tick, self.bytes])
     }
 }
 
@@ -127,42 +160,83 @@ pub struct Refusal {
     pub place: u64,
 }
 
-impl Line for Refusal {
+impl Line<3> for Refusal {
     ghost text = { λ l. refusal_text l.layer l.number l.place };
 
-    fn write(&self, out: &mut [u8]) -> Result<usize, LineFault> {
-        write_line(out, 'R', &[self.layer, self.number, self.place])
+    ghost few = { Prim.search rules };
+
+    fn parts(&self) -> (u8, [u64; 3]) {
+        (b'R', [self.layer, self.number, self.place])
+    }
+}
+
+/// A line that is as long as any: each of its numbers has twenty digits.
+pub fn longest_line() -> Departure
+    ensures { length (departure_text result) ≡ LONGEST_LINE }
+{
+    Departure {
+        tick: u64::MAX,
+        input: usize::MAX,
+        output: usize::MAX,
+        serial: u64::MAX,
+        arrival: u64::MAX,
+        crossing: u64::MAX,
+        sending: u64::MAX,
+        whole: u64::MAX,
+        numerator: u64::MAX,
+        bytes: 0,
     }
 }
 
 // Writes the line of a letter and at most nine fields, if the buffer has room for all of it.
-fn write_line(out: &mut [u8], letter: char, fields: &[u64]) -> Result<usize, LineFault>
-    requires ascii { letter < 128 }
+fn write_line(out: &mut [u8], letter: u8, fields: &[u64]) -> Result<usize, LineFault>
     requires few { length fields.now ≤ 9 }
     ensures written { Writes (line_of letter fields.now) out.old out.new result }
     ensures room { LONGEST_LINE ≤ length out.old → is_ok result ≡ true }
 {
-    let line = compose(letter, fields);
+    let mut bytes = [0; LONGEST_LINE];
+    let start = compose(letter, fields, &mut bytes);
+    let line = &bytes[start..];
     if out.len() < line.len() {
         return Err(LineFault::ShortBuffer);
     }
-    out[..line.len()].copy_from_slice(line.as_str().as_bytes());
+    out[..line.len()].copy_from_slice(line);
     Ok(line.len())
 }
 
-// The line of a letter and at most nine fields.
-fn compose(letter: char, fields: &[u64]) -> ArrayString<LONGEST_LINE>
-    requires ascii { letter < 128 }
+// Writes the line of a letter and at most nine fields so that it ends where the array does, and answers where it begins.
+fn compose(letter: u8, fields: &[u64], bytes: &mut [u8; LONGEST_LINE]) -> usize
     requires few { length fields.now ≤ 9 }
-    ensures { result.bytes ≡ line_of letter fields.now }
+    ensures start { result ≤ LONGEST_LINE }
+    ensures written { drop result bytes.new ≡ line_of letter fields.now }
 {
-    let mut digits = Buffer::new();
-    let mut line = ArrayString::new();
-    line.push(letter);
-    for n in fields {
-        line.push(' ');
-        line.push_str(digits.format(*n));
+    let mut at = LONGEST_LINE - 1;
+    bytes[at] = b'\n';
+    let mut left = fields;
+    while let Some((n, before)) = left.split_last() {
+        at = write_decimal(*n, bytes, at) - 1;
+        bytes[at] = b' ';
+        left = before;
     }
-    line.push('\n');
-    line
+    at -= 1;
+    bytes[at] = letter;
+    at
+}
+
+// Writes a number so that it ends at `end`, and answers where it begins.
+fn write_decimal(n: u64, bytes: &mut [u8; LONGEST_LINE], end: usize) -> usize
+    requires room { (length (decimal n) ≤ end) × (end ≤ LONGEST_LINE) }
+    ensures start { result + length (decimal n) ≡ end }
+    ensures written { drop result bytes.new ≡ decimal n ++ drop end bytes.old }
+{
+    let mut left = n;
+    let mut at = end;
+    while left >= 10 {
+        at -= 1;
+        bytes[at] = b'0' + (left % 10) as u8;
+        left /= 10;
+    }
+    at -= 1;
+    bytes[at] = b'0' + left as u8;
+    at
 }
