@@ -25,7 +25,7 @@ module _ {S R : Type 0} (store : StoreOf S) (rule : RuleOf R) where
   abbrev pub Begins : {g : _} → Draft S R → Player S R g → Type 0
   Begins draft p =
       let plan = plan_of draft.plan in
-      Plays store.lists store.size plan (at_start plan (kind_with store.sign rule.answer rule.next draft.rule)) p
+      Plays store.lists store.size plan (at_start plan (kind_of store rule draft.rule)) p
 
   -- what a tick makes of a player, the passing of quiet ticks, and an arrival
   abbrev pub TicksOn : {g : _} → Player S R g → Player S R g → Type 0
