@@ -1,7 +1,8 @@
 //! What a plan, and a switch over it, refuse, and the number of each refusal.
-ghost use Rattle.std.specs.Prelude.{◌≡◌};
+ghost use Rattle.std.specs.Prelude.{◌≡◌, ◌-◌, ◌^◌};
 ghost use Rattle.plan.specs.declared.fault.ShareFault.TheVariants as share;
 ghost use Rattle.plan.specs.declared.fault.ArriveFault.TheVariants as arrive;
+ghost use Rattle.plan.specs.declared.fault.TheConstants.{LAST_TICK};
 ghost use Rattle.plan.specs.Numbers.{size_number, share_number, port_number, arrive_number, step_number};
 
 /// A size that is not accepted.
@@ -105,6 +106,11 @@ impl From<PortFault> for ArriveFault {
 
 /// The last tick of the clock, 2^40 − 1: no step is made at it.
 pub const LAST_TICK: u64 = 0xff_ffff_ffff;
+
+/// The clock goes up to that tick, and no other.
+pub fn last_tick_stands()
+    ensures { LAST_TICK ≡ 2 ^ 40 - 1 }
+{}
 
 /// A step that is not made.
 #[derive(Clone, Copy, PartialEq, Eq, Debug)]

@@ -5,6 +5,8 @@ mod fault;
 mod size;
 mod table;
 
-pub use fault::{ArriveFault, LAST_TICK, PortFault, ShareFault, SizeFault, StepFault};
+pub use fault::{
+    ArriveFault, LAST_TICK, PortFault, ShareFault, SizeFault, StepFault, last_tick_stands,
+};
 pub use size::Size;
 pub use table::Plan;

@@ -5,6 +5,6 @@ mod meaning;
 mod numbered;
 mod packet;
 
-pub use meaning::{MOST_STORED, Store};
+pub use meaning::{MOST_STORED, Store, most_stored_stands};
 pub use numbered::Numbered;
 pub use packet::{Incoming, Packet};

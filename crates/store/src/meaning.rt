@@ -11,6 +11,11 @@ use crate::packet::Packet;
 /// The most packets that any store holds in all, and its largest stated size.
 pub const MOST_STORED: usize = 65_536;
 
+/// That many they are, and no other number.
+pub fn most_stored_stands()
+    ensures { MOST_STORED ≡ 65536 }
+{}
+
 /// Keeps the packets of 16 × 16 flows. It means a list of packets for each flow, oldest first, a full sign for each
 /// flow, and a stated size that no call alters. Every call takes any arguments; one that is refused changes nothing,
 /// and no call touches the list of another flow.
