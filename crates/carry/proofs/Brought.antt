@@ -15,18 +15,11 @@ use Rattle.replay.specs.Replay.{Arrival, Replayed, offered}
 use Rattle.replay.specs.Events.{Event, turned_away, events_of}
 use Rattle.player.specs.Plays.{Plays, Answers, kind_with}
 use Rattle.player.specs.declared.player.Player.{Player}
-use Rattle.runfile.specs.Records.{fault_at}
-use Rattle.runfile.specs.declared.fault.Cause.{Cause}
-use Rattle.runfile.specs.declared.fault.Fault.{Fault}
 use Rattle.carry.specs.Lines.{event_line, event_lines}
 use Rattle.carry.specs.Lists.{Appends}
 use Rattle.carry.specs.Playing.{Tells, IsUpTo}
 use Rattle.carry.specs.Traffic.{refused_by}
 use Rattle.carry.proofs.Extends.{tells_more}
-
--- a refusal of this place and cause
-pub made_at : (p : ℕ) (c : Cause) (f : Fault) → f.place ≡ p → f.cause ≡ c → fault_at p c ≡ f
-made_at p c f place is = sym (λ k. record { place = place k; cause = is k })
 
 module _ {S R : Type 0} (lists : S → ℕ → ℕ → List Packet) (size : S → ℕ) where
   -- the log tells the clock

@@ -7,16 +7,16 @@ use crate::fault::ReadFault;
 /// Where packets are kept.
 #[derive(Clone, Copy, PartialEq, Eq, Debug)]
 pub enum StoreKind {
-    Rings = 1,
-    Pool = 2,
+    Rings,
+    Pool,
 }
 
 /// How a choice among equal virtual finishes is made.
 #[derive(Clone, Copy, PartialEq, Eq, Debug)]
 pub enum RuleKind {
-    Lowest = 1,
-    Turn = 2,
-    Longest = 3,
+    Lowest,
+    Turn,
+    Longest,
 }
 
 /// The size of the switch, its store and its rule.

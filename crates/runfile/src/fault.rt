@@ -1,6 +1,8 @@
 //! Why a run file is refused.
 ghost use Rattle.std.specs.Prelude.{◌≡◌};
 ghost use Rattle.runfile.specs.Numbers.{read_number, code};
+ghost use Rattle.runfile.specs.Records.{fault_at};
+ghost use Rattle.runfile.specs.declared.fault.Cause.{Cause as Made};
 ghost use Rattle.runfile.specs.declared.fault.Cause.TheVariants as cause;
 
 use plan::{ArriveFault, ShareFault, SizeFault};
@@ -102,8 +104,7 @@ pub struct Fault {
 impl Fault {
     /// The refusal at this place.
     pub fn at<C: Into<Cause>>(place: usize, cause: C) -> Fault
-        ensures place { result.place ≡ place }
-        ensures cause { C.converts cause result.cause }
+        ensures { (made : Made) × C.converts cause made × (result ≡ fault_at place made) }
     {
         Fault {
             place,

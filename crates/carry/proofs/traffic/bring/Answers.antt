@@ -16,7 +16,7 @@ use Rattle.carry.specs.Lists.{Appends}
 use Rattle.carry.specs.Playing.{Tells}
 use Rattle.carry.specs.Traffic.{refused_by, Brought}
 use Rattle.carry.specs.declared.stop.Stop.TheVariants.{Refused}
-use Rattle.carry.proofs.Brought.{clock_as_told, accepted, turned, unlawful, made_at}
+use Rattle.carry.proofs.Brought.{clock_as_told, accepted, turned, unlawful}
 use Rattle.carry.proofs.traffic.bring.Goals as goal
 
 pub returns-in_default : goal.returns-in_default
@@ -106,7 +106,7 @@ returns-in_default-fault g c plan first x before room at soon =
     let un =
     unlawful g.S.Store.lists g.S.Store.size g.S.NamedStore.sign g.R.TieRule.answer g.R.NamedRule.next first plan y c.arrive.new.self told c.in-Err.fault c.in_default-fault.not-Full
     (c.in-Err.ensures plan first y here.plays t) in
-    let made = made_at c.args.place (cause.Arrive c.in-Err.fault) c.at.result c.at.ensures.place c.at.ensures.cause in
+    let made = ap (fault_at c.args.place) (sym c.at.ensures.1) ∙ sym c.at.ensures.2 in
     subst (λ (a : Arrival). Brought g.S.Store.lists g.S.Store.size plan kind (run_to plan kind a.tick x) a c.arrive.new.self c.args.place before (vec_items out) room (vec_capacity out) (Err (Refused c.at.result))) is (
       ap (λ (o : Option ArriveFault). option_map (fault_at c.args.place) (option_map (λ (f : ArriveFault). cause.Arrive f) o)) un ∙ ap (λ (f : Fault). Some f) made,
       here.tells,
