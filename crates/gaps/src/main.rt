@@ -1,7 +1,8 @@
 //! The program: a run file on standard input to its listing on standard output.
 #![tactic(auto)]
 
-ghost use Rattle.std.specs.Prelude.{◌≡◌, IfOk, IfSome, OnOk, take};
+ghost use Rattle.std.specs.Prelude.{◌≡◌, IfOk, IfSome, OnOk, take, is_ok, if◌then◌else◌};
+ghost use Rattle.std.specs.Process.{exit_status};
 ghost use Rattle.std.specs.Io.KnownBytes.{Appends};
 ghost use Rattle.runfile.specs.File.{Outcome, Comes};
 ghost use Rattle.carry.specs.Items.{refuses};
@@ -19,9 +20,9 @@ use std::process::ExitCode;
 // The longest file that is accepted, and one byte more, by which a longer one is told.
 const MOST: u64 = 65537;
 
-// The first bytes of an input, at most `MOST`.
+// The first bytes of an input, at most 65,537.
 fn read_file<R: Read>(alloc: Global, input: &mut R) -> anyhow::Result<Vec<u8>>
-    ensures { IfOk result (λ file. IfSome (R.remaining input.old) (λ bytes. file.items ≡ take MOST bytes)) }
+    ensures { IfOk result (λ file. IfSome (R.remaining input.old) (λ bytes. file.items ≡ take 65537 bytes)) }
 {
     // one byte more, so that the read that finds the end wants no more memory
     let mut file = Vec::with_capacity(alloc, MOST as usize + 1)?;
@@ -31,7 +32,7 @@ fn read_file<R: Read>(alloc: Global, input: &mut R) -> anyhow::Result<Vec<u8>>
 
 // Writes the listing of a run file.
 fn list<R: Read, W: Write>(alloc: Global, input: &mut R, output: &mut W) -> anyhow::Result<()>
-    ensures { OnOk result (IfSome (R.remaining input.old) (λ bytes. (o : Outcome) × Comes refuses (take MOST bytes) o × Appends (W.contents output.old) (W.contents output.new) (listing o))) }
+    ensures { OnOk result (IfSome (R.remaining input.old) (λ bytes. (o : Outcome) × Comes refuses (take 65537 bytes) o × Appends (W.contents output.old) (W.contents output.new) (listing o))) }
 {
     let file = read_file(alloc, input)?;
     let mut out = Vec::new(alloc);
@@ -40,12 +41,18 @@ fn list<R: Read, W: Write>(alloc: Global, input: &mut R, output: &mut W) -> anyh
     Ok(())
 }
 
+// Tells what went wrong, if something did, and how the program ends: with status 0, or with 1.
+fn ended(rt: &HostRuntime, listed: anyhow::Result<()>) -> anyhow::Result<ExitCode>
+    ensures { IfOk result (λ code. exit_status code ≡ (if is_ok listed then 0 else 1)) }
+{
+    let Err(error) = listed else {
+        return Ok(ExitCode::SUCCESS);
+    };
+    eprintln!(rt; "gaps: {error}")?;
+    Ok(ExitCode::FAILURE)
+}
+
 fn main(rt: HostRuntime) -> anyhow::Result<ExitCode> {
-    match list(rt.alloc(), &mut rt.stdin(), &mut rt.stdout()) {
-        Ok(()) => Ok(ExitCode::SUCCESS),
-        Err(error) => {
-            eprintln!(rt; "gaps: {error}")?;
-            Ok(ExitCode::FAILURE)
-        }
-    }
+    let listed = list(rt.alloc(), &mut rt.stdin(), &mut rt.stdout());
+    ended(&rt, listed)
 }
