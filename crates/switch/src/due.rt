@@ -12,7 +12,7 @@ use plan::LAST_TICK;
 use state::Ledger;
 use store::{Numbered, Store};
 
-// The tick of each input and of each output: what a step need not look at is told by it alone.
+// The tick from which on each input, and each output, may start something: before it a step need not look at its packets.
 #[derive(Clone, Copy)]
 pub(crate) struct Due {
     pub(crate) across: [u64; 16],
@@ -28,7 +28,7 @@ fn sooner(best: u64, tick: Option<u128>) -> u64
     tick.map_or(best, |tick| tick.min(u128::from(best)) as u64)
 }
 
-// That of an input, by the packets stored.
+// The tick of an input, by the oldest packet of each of its flows that has not started across.
 fn across_due<S: Store>(store: &Numbered<S>, ledgers: &[Ledger; 256], input: Port) -> u64
     ensures { result ≡ across_due (S.Store.lists store.now.store) (ledger_in ledgers.now) input.index }
 {
@@ -41,7 +41,7 @@ fn across_due<S: Store>(store: &Numbered<S>, ledgers: &[Ledger; 256], input: Por
     })
 }
 
-// That of an output.
+// The tick of an output, by the oldest packet of each of its flows.
 fn out_due<S: Store>(store: &Numbered<S>, longest: u32, output: Port) -> u64
     ensures { result ≡ out_due longest (S.Store.lists store.now.store) output.index }
 {
@@ -56,7 +56,7 @@ fn out_due<S: Store>(store: &Numbered<S>, longest: u32, output: Port) -> u64
 }
 
 impl Due {
-    // Those of a switch with nothing inside.
+    // The ticks of a switch with nothing inside.
     pub(crate) fn new() -> Due
         ensures { (result.across ≡ replicate 16 last) × (result.out ≡ replicate 16 last) }
     {
@@ -66,7 +66,7 @@ impl Due {
         }
     }
 
-    // Works out anew those of the two ports of a flow.
+    // Works out anew the ticks of the two ports of a flow.
     pub(crate) fn renew<S: Store>(
         &mut self,
         flow: Flow,

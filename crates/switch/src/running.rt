@@ -10,7 +10,8 @@ use state::{Busy, Ledger};
 use store::{Numbered, Store};
 
 /// A sealed switch: its plan and clock, the line of each input and output, the ledger of each flow, the store with its
-/// numbering, the tie rule, and from when on each port may start something. Its tables are arrays of fixed size: a switch does not allocate.
+/// numbering, the tie rule, and from when on each port may start something. Its tables are arrays of fixed size: a switch does
+/// not allocate.
 // What it shows is `state_of` of specs/, and no `impl Model`: that one could not cite the lists of S.
 #[derive(Drop)]
 pub struct Running<S: Store, R> {
