@@ -48,8 +48,8 @@ module _ {S R Z : Type 0} (store : StoreOf S) (rule : RuleOf R) where
       Reaches store.lists store.size plan (on plan (kind_of store rule first) x) q before (vec_items new) room (vec_capacity new) r
 
   -- A call plays on up to the next event and with its tick, or only to the limit: until its last tick as many packets are inside.
-  abbrev pub Advances : {E : Type 0} → ℕ → {g : _} (p q : Player S R g) → (old new : Vec ℕ Z) → Result (Unit {0}) E → Type 0
-  Advances limit p q old new r =
+  abbrev pub ToNextEvent : {E : Type 0} → ℕ → {g : _} (p q : Player S R g) → (old new : Vec ℕ Z) → Result (Unit {0}) E → Type 0
+  ToNextEvent limit p q old new r =
       (plan : Plan) (first : R) (x : Replayed R) (before : List ℕ) (room : ℕ) → IsUpTo store.lists store.size plan x p before (vec_items old) room (vec_capacity old) →
       limit ≤ LAST_TICK →
       let kind = kind_of store rule first in

@@ -2,7 +2,7 @@
 //! and the other is the caller's.
 ghost use Rattle.std.specs.Prelude.{◌-◌, ◌<◌, ◌≤◌};
 ghost use Rattle.replay.specs.Replay.{run_out, run_tick, run_to};
-ghost use Rattle.carry.specs.Playing.{Advances, Ends, IsPlaying, PlaysOn};
+ghost use Rattle.carry.specs.Playing.{ToNextEvent, Ends, IsPlaying, PlaysOn};
 
 use crate::lines::{push, push_departures};
 use crate::peaks::push_peaks;
@@ -23,12 +23,12 @@ fn tick<S: NamedStore, R: NamedRule>(
 }
 
 // The quiet ticks from now on and the one behind them, none beyond the limit.
-fn advance<S: NamedStore, R: NamedRule>(
+fn to_next_event<S: NamedStore, R: NamedRule>(
     player: &mut Player<S, R>,
     limit: u64,
     out: &mut Vec<u8>,
 ) -> Result<(), AllocError>
-    ensures { Advances S.NamedStore R.NamedRule limit player.old player.new out.old out.new result }
+    ensures { ToNextEvent S.NamedStore R.NamedRule limit player.old player.new out.old out.new result }
 {
     player.pass_quiet(limit);
     if player.clock() >= limit {
@@ -45,12 +45,13 @@ pub fn run_to<S: NamedStore, R: NamedRule>(
 ) -> Result<(), AllocError>
     ensures { PlaysOn S.NamedStore R.NamedRule (λ plan kind. run_to plan kind until) (λ _. until ≤ LAST_TICK) player.old player.new out.old out.new result }
 {
-    // at most as many turns as ticks, nothing is indexed: a chain would have to carry the player, the vector and the error along
+    // at most as many turns as ticks, nothing is indexed: a chain would have to carry the player, the vector and the error
+    // along
     for _ in 0..until.saturating_sub(player.clock()) {
         if player.clock() >= until {
             return Ok(());
         }
-        advance(player, until, out)?;
+        to_next_event(player, until, out)?;
     }
     Ok(())
 }
@@ -67,7 +68,7 @@ pub fn run_out<S: NamedStore, R: NamedRule>(
         if player.inside() == 0 || player.clock() >= LAST_TICK {
             return Ok(());
         }
-        advance(player, LAST_TICK, out)?;
+        to_next_event(player, LAST_TICK, out)?;
     }
     Ok(())
 }

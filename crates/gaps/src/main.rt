@@ -1,7 +1,7 @@
 //! The program: a run file on standard input to its listing on standard output.
 #![tactic(auto)]
 
-ghost use Rattle.std.specs.Prelude.{◌≡◌, IfOk, IfSome, OnOk, take, is_ok, if◌then◌else◌};
+ghost use Rattle.std.specs.Prelude.{◌≡◌, IfOk, IfSome, OnOk, take, true, is_ok, if◌then◌else◌};
 ghost use Rattle.std.specs.Process.{exit_status};
 ghost use Rattle.std.specs.Io.KnownBytes.{Appends};
 ghost use Rattle.runfile.specs.File.{Outcome, Comes};
@@ -43,7 +43,8 @@ fn list<R: Read, W: Write>(alloc: Global, input: &mut R, output: &mut W) -> anyh
 
 // Tells what went wrong, if something did, and how the program ends: with status 0, or with 1.
 fn ended(rt: &HostRuntime, listed: anyhow::Result<()>) -> anyhow::Result<ExitCode>
-    ensures { IfOk result (λ code. exit_status code ≡ (if is_ok listed then 0 else 1)) }
+    ensures status { IfOk result (λ code. exit_status code ≡ (if is_ok listed then 0 else 1)) }
+    ensures well { OnOk listed (is_ok result ≡ true) }
 {
     let Err(error) = listed else {
         return Ok(ExitCode::SUCCESS);

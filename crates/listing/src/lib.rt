@@ -47,7 +47,7 @@ pub trait Line<const N: usize> {
     ghost text: { Self → List ℕ };
 
     /// The letter and the fields.
-    fn parts(&self) -> (u8, [u64; N])
+    fn letter_and_fields(&self) -> (u8, [u64; N])
         ensures { line_of result.0 result.1 ≡ text self.now };
 
     // A line has at most nine fields.
@@ -58,7 +58,7 @@ pub trait Line<const N: usize> {
         ensures written { Writes (text self.now) out.old out.new result }
         ensures room { LONGEST_LINE ≤ length out.old → is_ok result ≡ true }
     {
-        let (letter, fields) = self.parts();
+        let (letter, fields) = self.letter_and_fields();
         write_line(out, letter, &fields)
     }
 
@@ -68,7 +68,7 @@ pub trait Line<const N: usize> {
         ensures full { OnErr result (vec_capacity out.old < length out.old.items + length (text self.now)) }
         ensures capacity { vec_capacity out.old ≤ vec_capacity out.new }
     {
-        let (letter, fields) = self.parts();
+        let (letter, fields) = self.letter_and_fields();
         let mut bytes = [0; LONGEST_LINE];
         let start = compose(letter, &fields, &mut bytes);
         out.extend_from_slice(&bytes[start..])
@@ -82,7 +82,7 @@ impl Line<9> for Departure {
     ghost few = { Prim.search rules };
 
     // a port is widened by `as`: no number is made of a usize by From
-    fn parts(&self) -> (u8, [u64; 9]) {
+    fn letter_and_fields(&self) -> (u8, [u64; 9]) {
         let fields = [
             self.tick,
             self.input as u64,
@@ -112,7 +112,7 @@ impl Line<4> for Full {
 
     ghost few = { Prim.search rules };
 
-    fn parts(&self) -> (u8, [u64; 4]) {
+    fn letter_and_fields(&self) -> (u8, [u64; 4]) {
         (b'N', [self.tick, self.input, self.output, self.len])
     }
 }
@@ -130,7 +130,7 @@ impl Line<3> for Peak {
 
     ghost few = { Prim.search rules };
 
-    fn parts(&self) -> (u8, [u64; 3]) {
+    fn letter_and_fields(&self) -> (u8, [u64; 3]) {
         (b'X', [self.input, self.output, self.peak])
     }
 }
@@ -147,7 +147,7 @@ impl Line<2> for End {
 
     ghost few = { Prim.search rules };
 
-    fn parts(&self) -> (u8, [u64; 2]) {
+    fn letter_and_fields(&self) -> (u8, [u64; 2]) {
         (b'E', [self.tick, self.bytes])
     }
 }
@@ -165,7 +165,7 @@ impl Line<3> for Refusal {
 
     ghost few = { Prim.search rules };
 
-    fn parts(&self) -> (u8, [u64; 3]) {
+    fn letter_and_fields(&self) -> (u8, [u64; 3]) {
         (b'R', [self.layer, self.number, self.place])
     }
 }

@@ -20,7 +20,7 @@ use Rattle.replay.specs.Replay.{Replayed, run_tick, run_ticks}
 use Rattle.replay.specs.Events.{left, events_of, departures_in, bytes_in, Event}
 use Rattle.replay.proofs.Steps.{ticks_none, ticks_last}
 use Rattle.player.specs.declared.player.Player.{Player}
-use Rattle.player.specs.Plays.{Plays, IsQuiet}
+use Rattle.player.specs.Plays.{Plays, AddsNoEvent}
 use Rattle.player.proofs.Ticked.{is_ticked}
 
 module _ {K : Type 0} (kind : Kind K) (told : K → ℕ → ℕ → K → Type 0) (only : KeepsNext told kind.next) (picks : (kept : K) → PicksTied (kind.answer kept))
@@ -67,7 +67,7 @@ module _ {S R : Type 0} (lists : S → ℕ → ℕ → List Packet) (size : S �
     {g : _} (p q : Player S R g) (limit k : ℕ) (s : PassesQuiet lists size kind.answer told p.running q.running limit k)
     (inside-is : q.inside ≡ p.inside) (bytes-is : q.bytes ≡ p.bytes) where
   abbrev PlaysQuiet : Plan → Replayed R → Type 0
-  PlaysQuiet plan x = Plays lists size plan (run_ticks plan kind k x) q × IsQuiet plan kind x k × (x.switch.clock + k ≤ max x.switch.clock (min limit LAST_TICK))
+  PlaysQuiet plan x = Plays lists size plan (run_ticks plan kind k x) q × AddsNoEvent plan kind x k × (x.switch.clock + k ≤ max x.switch.clock (min limit LAST_TICK))
 
   quiet_at_its_plan : (x : Replayed R) → Plays lists size (plan_of p.running.plan) x p → PlaysQuiet (plan_of p.running.plan) x
   quiet_at_its_plan x was =

@@ -8,7 +8,7 @@ use Rattle.replay.specs.Kinds.{Sign, Kind}
 use Rattle.replay.specs.Replay.{at_start}
 use Rattle.switch.specs.declared.draft.Draft.{Draft}
 use Rattle.player.specs.declared.player.Player.{Player}
-use Rattle.player.specs.Plays.{Offers, Passes, Plays, Ticks, kind_with}
+use Rattle.player.specs.Plays.{Offers, PassesQuietly, Plays, Ticks, kind_with}
 
 abbrev pub StoreOf : Type 0 → Type 0
 StoreOf S = record { lists : S → ℕ → ℕ → List Packet; full : S → ℕ → ℕ → Bool; size : S → ℕ; sign : Sign; flow_most : ℕ }
@@ -32,7 +32,7 @@ module _ {S R : Type 0} (store : StoreOf S) (rule : RuleOf R) where
   TicksOn before after = Ticks store.lists store.size store.sign rule.answer rule.next before after
 
   abbrev pub PassesOn : {g : _} → Player S R g → Player S R g → ℕ → ℕ → Type 0
-  PassesOn before after limit k = Passes store.lists store.size store.sign rule.answer rule.next before after limit k
+  PassesOn before after limit k = PassesQuietly store.lists store.size store.sign rule.answer rule.next before after limit k
 
   abbrev pub OffersTo : {g : _} → Player S R g → Player S R g → ℕ → ℕ → ℕ → Result (Unit {0}) ArriveFault → Type 0
   OffersTo before after i j b r = Offers store.lists store.size store.sign rule.answer rule.next before after i j b r

@@ -41,7 +41,7 @@ pub record Plays {S R : Type 0} (lists : S → ℕ → ℕ → List Packet) (siz
   pub bytes : p.bytes ≡ bytes_in (left_in x.log) % 2 ^ 64
 
 -- The k ticks of a replay from a moment on are quiet: after each of them the events are the same, and as many packets are inside.
-pub record IsQuiet {K : Type 0} (plan : Plan) (kind : Kind K) (x : Replayed K) (k : ℕ) : Type 0 where
+pub record AddsNoEvent {K : Type 0} (plan : Plan) (kind : Kind K) (x : Replayed K) (k : ℕ) : Type 0 where
   pub events : (m : ℕ) → m ≤ k → events_of (run_ticks plan kind m x).log ≡ events_of x.log
   pub inside : (m : ℕ) → m ≤ k → all_inside plan (run_ticks plan kind m x).switch ≡ all_inside plan x.switch
 
@@ -55,13 +55,13 @@ module _ {S R : Type 0} (lists : S → ℕ → ℕ → List Packet) (size : S �
 
   -- k ticks of a replay are passed, all those up to the limit that come before the switch's next event: they are quiet, and none
   -- is beyond the limit; in the last of them, if there is one, nothing left
-  abbrev pub Passes : {g : _} → Player S R g → Player S R g → ℕ → ℕ → Type 0
-  Passes before after limit k =
+  abbrev pub PassesQuietly : {g : _} → Player S R g → Player S R g → ℕ → ℕ → Type 0
+  PassesQuietly before after limit k =
       (k ≡ next_event (state_of lists before.running) limit - before.running.clock)
       × (left_now after ≡ cond (k == 0) (left_now before) [])
       × ((plan : Plan) (first : R) (x : Replayed R) → Plays lists size plan x before →
       Plays lists size plan (run_ticks plan (kind_with sign answer next first) k x) after
-      × IsQuiet plan (kind_with sign answer next first) x k
+      × AddsNoEvent plan (kind_with sign answer next first) x k
       × (x.switch.clock + k ≤ max x.switch.clock (min limit LAST_TICK)))
 
   -- what an arrival answers: a lawful one is accepted where the store's sign is down, and turned away where it is up; any other

@@ -59,8 +59,8 @@ impl<S: NamedStore, R: NamedRule> Player<S, R> {
         self.bytes = self.bytes.wrapping_add(bytes_in(&self.list[..count]));
     }
 
-    /// Passes at one go the quiet ticks from now on, none beyond the limit: those in which nothing starts and nothing leaves.
-    /// Answers how many they are; if there is one, `departures` is empty after it.
+    /// Passes in one go the quiet ticks from now on, none beyond the limit: those in which nothing starts and nothing
+    /// leaves. Answers how many they are; if there is one, `departures` is empty after it.
     pub fn pass_quiet(&mut self, limit: u64) -> u64
         ensures { PassesOn S.NamedStore R.NamedRule self.old self.new limit result }
     {

@@ -27,7 +27,7 @@ module _ {K : Type 0} (answer : K → Rule) (told : K → ℕ → ℕ → K → 
       let at : st.clock + k + 1 ≡ st.clock + suc k = omega arith in
       (on.0, subst (λ t. Moment M (at_tick t st) (quiet_log n (suc k) log) on.0) at on.2)
 
-  -- the ticks that are passed at one go
+  -- the ticks that are passed in one go
   pub passes : (after : State) (limit k : ℕ) → k ≡ next_event st limit - st.clock → StillFor st limit k → after ≡ at_tick (max st.clock (next_event st limit)) st → Passes M st after k
   passes after limit k e quiet is = λ log s now.
       let n = st.plan.size.ports in

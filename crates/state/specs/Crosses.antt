@@ -1,6 +1,6 @@
 -- The first half of a step: at each input in order, what starts across.
 use Rattle.std.specs.Prelude.{◌≡◌, ℕ, ◌+◌, ◌-◌, ◌*◌, ◌%◌, ◌^◌, max, cond, List, map, Some, None, Option, nat_le}
-use Rattle.std.specs.List.{slice_get, range_with_len}
+use Rattle.std.specs.List.{range_with_len}
 use Rattle.timing.specs.declared.Stamp.{Stamp}
 use Rattle.timing.specs.Stamps.{scaled, earlier}
 use Rattle.timing.specs.Marks.{tied}
@@ -11,6 +11,7 @@ use Rattle.tie.specs.declared.question.Question.{Question}
 use Rattle.law.specs.Rules.{Rule, asked, KeptAfter}
 use Rattle.state.specs.declared.line.Ledger.{Ledger}
 use Rattle.state.specs.State.{State}
+use Rattle.state.specs.Due.{oldest_across}
 use Rattle.state.specs.Lines.{busy_at, with_line, busy}
 
 -- the mark at tick t of a packet that may start across: its virtual finish, once its virtual start has come
@@ -18,9 +19,9 @@ abbrev pub mark_across : ℕ → Option Packet → Option Stamp
 mark_across t None = None
 mark_across t (Some p) = cond (nat_le (scaled p.start) (p.start.weight * t)) (Some p.finish) None
 
--- the oldest packet of flow (i, j) that has not started across: `under_way` older ones have
+-- the packet of flow (i, j) that is next across
 abbrev pub next_across : State → ℕ → ℕ → Option Packet
-next_across st i j = slice_get (st.lists i j) (st.ledgers i j).under_way
+next_across st i j = oldest_across st.lists st.ledgers i j
 
 -- the marks of the packets that are next at input i, by output
 unfoldable pub marks_across : State → ℕ → List (Option Stamp)

@@ -16,13 +16,21 @@ unfoldable pub first_of : (ℕ → Option ℕ) → ℕ → ℕ
 first_of f zero = LAST_TICK
 first_of f (suc n) = sooner_of (first_of f n) (f n)
 
--- from when on input i may start something: the oldest packet of one of its flows that has not started across
-abbrev pub across_due : (ℕ → ℕ → List Packet) → (ℕ → ℕ → Ledger) → ℕ → ℕ
-across_due lists ledgers i = first_of (λ j. across_from (slice_get (lists i j) (ledgers i j).under_way)) 16
+-- the oldest packet of flow (i, j) that has not started across: `under_way` older ones have
+abbrev pub oldest_across : (ℕ → ℕ → List Packet) → (ℕ → ℕ → Ledger) → ℕ → ℕ → Option Packet
+oldest_across lists ledgers i j = slice_get (lists i j) (ledgers i j).under_way
 
--- from when on output j may start something, where the longest packet has L bytes: the oldest packet of one of its flows
+-- the oldest stored packet of flow (i, j)
+abbrev pub oldest_out : (ℕ → ℕ → List Packet) → ℕ → ℕ → Option Packet
+oldest_out lists i j = slice_get (lists i j) 0
+
+-- from when on input i may start something: one of these packets of its flows
+abbrev pub across_due : (ℕ → ℕ → List Packet) → (ℕ → ℕ → Ledger) → ℕ → ℕ
+across_due lists ledgers i = first_of (λ j. across_from (oldest_across lists ledgers i j)) 16
+
+-- from when on output j may start something, where the longest packet has L bytes
 abbrev pub out_due : ℕ → (ℕ → ℕ → List Packet) → ℕ → ℕ
-out_due L lists j = first_of (λ i. out_from L (slice_get (lists i j) 0)) 16
+out_due L lists j = first_of (λ i. out_from L (oldest_out lists i j)) 16
 
 -- a row tells these ticks of all inputs, and of all outputs
 abbrev pub TellsAcross : (ℕ → ℕ → List Packet) → (ℕ → ℕ → Ledger) → List ℕ → Type 0

@@ -9,6 +9,7 @@ use Rattle.tie.specs.declared.question.Question.{Question}
 use Rattle.law.specs.Rules.{Rule, asked, KeptAfter}
 use Rattle.departure.specs.declared.Departure.{Departure}
 use Rattle.state.specs.State.{State, bytes_in}
+use Rattle.state.specs.Due.{oldest_out}
 use Rattle.state.specs.Lines.{busy_at, to_output, carries, with_line, busy}
 use Rattle.state.specs.Crosses.{Crossings}
 use Rattle.state.specs.Finishes.{finish_to, listed_to}
@@ -24,9 +25,9 @@ abbrev pub mark_out : ℕ → ℕ → Option Packet → Option Stamp
 mark_out L t None = None
 mark_out L t (Some p) = cond (crossed_by_tick t p.bytes p.crossing && nat_le (scaled p.start + p.start.weight * L) (p.start.weight * t)) (Some p.finish) None
 
--- the oldest stored packet of flow (i, j)
+-- the packet of flow (i, j) that is next out
 abbrev pub next_out : State → ℕ → ℕ → Option Packet
-next_out st i j = slice_get (st.lists i j) 0
+next_out st i j = oldest_out st.lists i j
 
 -- the marks of the oldest packets at output j, by input
 unfoldable pub marks_out : State → ℕ → List (Option Stamp)

@@ -31,7 +31,7 @@ pub(crate) fn question(marks: [Option<Stamp>; 16], waiting: [u64; 16]) -> Questi
 
 impl<S: Store, R> Running<S, R> {
     // The oldest packet of a flow that has not started across.
-    pub(crate) fn next_across(&self, flow: Flow) -> Option<Packet>
+    fn next_across(&self, flow: Flow) -> Option<Packet>
         ensures { result ≡ next_across (state_of S.Store.lists self.now) flow.input flow.output }
     {
         let ledger = ledger_at(&self.ledgers, flow);
@@ -116,8 +116,8 @@ impl<S: Store, R: TieRule> Running<S, R> {
         self.rule.ask(code, &question())
     }
 
-    // An input's turn in a step: it starts what is chosen, and tells the rule. Before something is due there nothing is tied, and
-    // no rule picks anything.
+    // An input's turn in a step: it starts what is chosen, and tells the rule. Before something is due there nothing is tied,
+    // and no rule picks anything.
     fn cross(&mut self, port: Port)
         ensures turn { Crosses R.TieRule.answer R.TieRule.told port.index (state_of S.Store.lists self.old) self.old.rule (state_of S.Store.lists self.new) self.new.rule }
         ensures size { KeepsSize S.Store.size self.old self.new }

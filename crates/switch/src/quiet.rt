@@ -30,7 +30,8 @@ impl<S: Store, R> Running<S, R> {
         )
     }
 
-    // The first tick, up to `best`, at which an output may start something, or while it is busy, whose step lets its packet leave.
+    // The first tick, up to `best`, at which an output may start something; while it is busy, the tick whose step lets its
+    // packet leave.
     fn next_at_output(&self, output: Port, best: u64) -> u64
         ensures { result ≡ output_next (state_of S.Store.lists self.now) output.index best }
     {
@@ -56,7 +57,7 @@ impl<S: Store, R> Running<S, R> {
 }
 
 impl<S: Store, R: TieRule> Running<S, R> {
-    /// Passes at one go the quiet ticks from now on, up to a limit: those whose step would start nothing and list nothing.
+    /// Passes in one go the quiet ticks from now on, up to a limit: those whose step would start nothing and list nothing.
     /// Answers how many they are, 0 if there is none.
     pub fn pass_quiet(&mut self, limit: u64) -> u64
         ensures { PassesQuiet S.Store.lists S.Store.size R.TieRule.answer R.TieRule.told self.old self.new limit result }

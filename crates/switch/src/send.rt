@@ -38,7 +38,7 @@ fn departure_of(packet: Packet, flow: Flow, tick: u64) -> Departure
 
 impl<S: Store, R> Running<S, R> {
     // The oldest stored packet of a flow.
-    pub(crate) fn next_out(&self, flow: Flow) -> Option<Packet>
+    fn next_out(&self, flow: Flow) -> Option<Packet>
         ensures { result ≡ next_out (state_of S.Store.lists self.now) flow.input flow.output }
     {
         self.store.look(flow.input, flow.output, 0)
@@ -110,7 +110,7 @@ impl<S: Store, R> Running<S, R> {
 }
 
 impl<S: Store, R: TieRule> Running<S, R> {
-    // An output's turn in a step.
+    // An output's turn in a step. As at an input, nothing is tied before something is due.
     // Not one function with an input's turn: the two halves of a step share only the generic parts, and their effects differ.
     fn send(&mut self, port: Port)
         ensures turn { Sends R.TieRule.answer R.TieRule.told port.index (state_of S.Store.lists self.old) self.old.rule (state_of S.Store.lists self.new) self.new.rule }

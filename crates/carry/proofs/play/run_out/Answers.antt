@@ -29,11 +29,11 @@ loop-preserved g c plan first x before room at =
     let lists = g.S.Store.lists in
     let size = g.S.Store.size in
     let p = c.loop.player in
-    let q = c.advance.new.player in
-    let out = c.advance.new.out in
+    let q = c.to_next_event.new.player in
+    let out = c.to_next_event.new.out in
     let k = ticks_with_next (state_of lists p.running) LAST_TICK in
     let here = c.loop.invariant plan first x before room at in
-    let on = c.in_ok-advance.ensures plan first (since lists size plan kind x p) before room here.0 (omega arith) in
+    let on = c.in_ok-to_next_event.ensures plan first (since lists size plan kind x p) before room here.0 (omega arith) in
     let clock = clock_later lists size plan kind x p here.0.plays k q on.1.plays in
     let early : p.running.clock < LAST_TICK = omega (arith, c.if-clock-ge-LAST_TICK.false, c.clock-else-inside-eq0.ensures) in
     let some : all_inside plan (since lists size plan kind x p).switch ≡ 0 → ⊥ = λ none. c.if-inside-eq0.false (c.inside.ensures ∙ here.0.plays.inside ∙ none) in (
@@ -68,17 +68,17 @@ returns g c plan first x before room at soon =
     let late : LAST_TICK ≤ p.running.clock = omega (arith, here.1, at.plays.switch.moment.shows.clock_is, c.clock.ensures, no_earlier lists size plan kind x p here.0.plays) in
     subst (λ (y : Replayed g.row.R.Denot). IsUpTo lists size plan y p before (vec_items out) room (vec_capacity out)) (sym (out_at_last lists size plan kind x p here.0.plays here.2 late)) here.0
 
-pub returns-in_err-advance : goal.returns-in_err-advance
-returns-in_err-advance g c plan first x before room at soon =
+pub returns-in_err-to_next_event : goal.returns-in_err-to_next_event
+returns-in_err-to_next_event g c plan first x before room at soon =
     let e = err_from_is_err_and c.from_residual.result c.from_residual.ensures.1 in
     let kind = kind_with g.S.NamedStore.sign g.R.TieRule.answer g.R.NamedRule.next first in
     let lists = g.S.Store.lists in
     let size = g.S.Store.size in
     let p = c.loop.player in
-    let out = c.advance.new.out in
+    let out = c.to_next_event.new.out in
     let k = ticks_with_next (state_of lists p.running) LAST_TICK in
     let here = c.loop.invariant plan first x before room at in
-    let on = c.in_err-advance.ensures plan first (since lists size plan kind x p) before room here.0 (omega arith) in
+    let on = c.in_err-to_next_event.ensures plan first (since lists size plan kind x p) before room here.0 (omega arith) in
     let y = run_ticks plan kind k (since lists size plan kind x p) in
     let early : p.running.clock < LAST_TICK = omega (arith, c.if-clock-ge-LAST_TICK.false, c.clock-else-inside-eq0.ensures) in
     let some : all_inside plan (since lists size plan kind x p).switch ≡ 0 → ⊥ = λ none. c.if-inside-eq0.false (c.inside.ensures ∙ here.0.plays.inside ∙ none) in

@@ -24,11 +24,11 @@ loop-preserved g c plan first x before room at small =
     let lists = g.S.Store.lists in
     let size = g.S.Store.size in
     let p = c.loop.player in
-    let q = c.advance.new.player in
-    let out = c.advance.new.out in
+    let q = c.to_next_event.new.player in
+    let out = c.to_next_event.new.out in
     let k = ticks_with_next (state_of lists p.running) c.args.until in
     let here = c.loop.invariant plan first x before room at small in
-    let on = c.in_ok-advance.ensures plan first (since lists size plan kind x p) before room here.0 small in
+    let on = c.in_ok-to_next_event.ensures plan first (since lists size plan kind x p) before room here.0 small in
     let clock = clock_later lists size plan kind x p here.0.plays k q on.1.plays in
     let early : p.running.clock < c.args.until = omega (arith, c.if-clock-until.false, c.clock-in-loop.ensures) in (
       subst (λ (y : Replayed g.row.R.Denot). IsUpTo lists size plan y q before (vec_items out) room (vec_capacity out)) (since_later lists size plan kind x p here.0.plays k q on.1.plays) on.1,
@@ -54,18 +54,18 @@ returns g c plan first x before room at small =
     let out = c.loop.out in
     subst (λ (n : ℕ). IsUpTo g.S.Store.lists g.S.Store.size plan (run_ticks plan kind n x) c.loop.player before (vec_items out) room (vec_capacity out)) all here.0
 
-pub returns-in_err-advance : goal.returns-in_err-advance
-returns-in_err-advance g c plan first x before room at small =
+pub returns-in_err-to_next_event : goal.returns-in_err-to_next_event
+returns-in_err-to_next_event g c plan first x before room at small =
     let e = err_from_is_err_and c.from_residual.result c.from_residual.ensures.1 in
     let kind = kind_with g.S.NamedStore.sign g.R.TieRule.answer g.R.NamedRule.next first in
     let lists = g.S.Store.lists in
     let size = g.S.Store.size in
     let p = c.loop.player in
-    let out = c.advance.new.out in
+    let out = c.to_next_event.new.out in
     let k = ticks_with_next (state_of lists p.running) c.args.until in
     let m = p.running.clock - x.switch.clock in
     let here = c.loop.invariant plan first x before room at small in
-    let on = c.in_err-advance.ensures plan first (since lists size plan kind x p) before room here.0 small in
+    let on = c.in_err-to_next_event.ensures plan first (since lists size plan kind x p) before room here.0 small in
     let none : Tells (run_ticks plan kind (m + k) x) before (vec_items out) room (vec_capacity out) false =
     subst (λ (y : Replayed g.row.R.Denot). Tells y before (vec_items out) room (vec_capacity out) false) (ticks_in_all lists size plan kind x p here.0.plays k) on.1 in
     let few : m + k ≤ c.args.until - x.switch.clock = omega (arith, c.if-clock-until.false, c.clock-in-loop.ensures, no_earlier lists size plan kind x p here.0.plays) in

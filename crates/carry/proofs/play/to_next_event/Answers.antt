@@ -6,7 +6,7 @@ use Rattle.replay.proofs.Steps.{ticks_last, ticks_clock}
 use Rattle.player.specs.Plays.{kind_with}
 use Rattle.carry.specs.Playing.{IsUpTo, Reaches, ticks_with_next}
 use Rattle.carry.proofs.Extends.{tells_same}
-use Rattle.carry.proofs.play.advance.Goals as goal
+use Rattle.carry.proofs.play.to_next_event.Goals as goal
 
 -- the limit is reached by quiet ticks
 pub returns-then-clock-limit : goal.returns-then-clock-limit
