@@ -1,11 +1,15 @@
 -- Marks that stand before one another, and those of a row that stand first.
-use Rattle.std.specs.Prelude.{◌≡◌, ℕ, Bool, true, false, not, ◌&&◌, List, [], ◌∷◌, map, Some, None, Option, slice_index_or}
+use Rattle.std.specs.Prelude.{◌≡◌, ℕ, Bool, true, false, cond, not, ◌&&◌, List, [], ◌∷◌, map, Some, None, Option, slice_index_or}
 use Rattle.std.specs.declared.cmp.Ordering.{Ordering}
 use Rattle.std.specs.Ordering.{is_lt}
 
 -- x stands before y: it is less
 abbrev pub less : {M : Type 0} → (M → M → Ordering) → M → M → Bool
 less cmp x y = is_lt (cmp x y)
+
+-- of two marks, y where it stands before x, and else x
+abbrev pub better : {M : Type 0} → (M → M → Bool) → M → M → M
+better before x y = cond (before y x) y x
 
 -- no mark of the row stands before m
 abbrev pub none_before : {M : Type 0} → (M → M → Bool) → List (Option M) → M → Bool

@@ -2,13 +2,35 @@
 use Rattle.std.specs.Prelude.{◌≡◌, ℕ, ◌*◌, ◌<◌, ◌≤◌, Bool, true, false, cond, nat_lt, ◌==◌, refl}
 use Rattle.std.specs.Cmp.{IsTotalOrder, nat_cmp_is}
 use Rattle.std.specs.declared.cmp.Ordering.{Ordering}
-use Rattle.std.specs.Ordering.{MatchOrdering, is_lt, nat_cmp}
+use Rattle.std.specs.Ordering.{MatchOrdering, is_gt, is_lt, nat_cmp, ordering_reverse}
 use Rattle.std.proofs.Math.Nat.{le_of_mul-le-mul_left, lt_of_mul-lt-mul_left, mul-lt-mul_of_pos_left}
 use Rattle.std.proofs.Common.{sym, ap, ◌∙◌, mul-le-mul_left, arith, Less, Equal, Greater}
 use Rattle.std.proofs.lemmas.Bool.{le-ltb, ltb-false}
-use Rattle.std.proofs.lemmas.Cmp.{nat_cmp_total, ranked}
+use Rattle.std.proofs.lemmas.Cmp.{nat_cmp_total, ranked, upto}
+use Rattle.timing.specs.Marks.{less}
 use Rattle.timing.specs.declared.Stamp.{Stamp}
 use Rattle.timing.specs.Stamps.{earlier, fraction_before, fraction_cmp, scaled, stamp_cmp}
+
+-- `less` of a total order has the two laws of a mark
+module _ {M : Type 0} (cmp : M → M → Ordering) (total : IsTotalOrder cmp) where
+  turned_less : (r : Ordering) → is_gt (ordering_reverse r) ≡ is_lt r
+  turned_less Less = refl
+  turned_less Equal = refl
+  turned_less Greater = refl
+
+  not_both : (r : Ordering) → is_lt r ≡ true → is_gt r ≡ false
+  not_both Less h = refl
+  not_both Equal h = refl
+  not_both Greater h = sym h
+
+  turned : (x y : M) → is_gt (cmp y x) ≡ less cmp x y
+  turned x y = ap is_gt (total.antisymm y x) ∙ turned_less (cmp x y)
+
+  pub less_asymmetric : (x y : M) → less cmp x y ≡ true → less cmp y x ≡ false
+  less_asymmetric x y h = sym (turned y x) ∙ not_both (cmp x y) h
+
+  pub less_negatively_transitive : (x y z : M) → less cmp x y ≡ false → less cmp y z ≡ false → less cmp x z ≡ false
+  less_negatively_transitive x y z p q = sym (turned x z) ∙ upto total z y x (turned y z ∙ q) (turned x y ∙ p)
 
 pub fraction_negatively_transitive : (u a v b w c : ℕ) → 0 < b → fraction_before u a v b ≡ false → fraction_before v b w c ≡ false → fraction_before u a w c ≡ false
 fraction_negatively_transitive u a v b w c pos p q =
@@ -80,3 +102,6 @@ pub earlier_negatively_transitive : (x y z : Stamp) → earlier x y ≡ false �
 earlier_negatively_transitive x y z p q =
     earlier_is_before x z
     ∙ fraction_negatively_transitive (scaled x) x.weight (scaled y) y.weight (scaled z) z.weight (weighted y) (sym (earlier_is_before x y) ∙ p) (sym (earlier_is_before y z) ∙ q)
+
+pub earlier_asymmetric : (x y : Stamp) → earlier x y ≡ true → earlier y x ≡ false
+earlier_asymmetric = less_asymmetric stamp_cmp stamp_cmp_total

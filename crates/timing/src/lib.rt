@@ -10,7 +10,7 @@ mod stamps;
 
 pub use flow::Stamper;
 pub use fluid::fluid_amount;
-pub use marks::choose;
+pub use marks::{Mark, choose};
 pub use stamps::{virtual_finish, virtual_length, virtual_start};
 
 /// A virtual time of a flow: a whole tick and a numerator over the flow's weight, below it.

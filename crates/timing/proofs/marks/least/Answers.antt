@@ -1,10 +1,12 @@
-use Rattle.std.proofs.Common.{rules}
+use Rattle.std.proofs.Common.{rules, tests}
 use Rattle.std.proofs.lemmas.Iterator.{YieldsList-from_slice}
-use Rattle.std.proofs.lemmas.Iterator.Consumers.{YieldsList-from_filter_map, reduce_from_yields_List}
-use Rattle.std.specs.Ordering.{min_by_ordering}
+use Rattle.std.proofs.lemmas.Iterator.Consumers.{YieldsList-from_filter_map}
+use Rattle.timing.proofs.Reduced.{reduced}
 use Rattle.timing.proofs.marks.least.Goals as goal
+use Rattle.timing.specs.Marks.{better}
 
 pub returns : goal.returns
 returns g c =
-    reduce_from_yields_List (λ x y. min_by_ordering (g.M.Ord.cmp x y) x y) _ _ c.min.ensures.ran
+    reduced _ (better g.M.Mark.before) _ _ c.reduce.ensures.ran
     (YieldsList-from_filter_map _ (λ m. m) (YieldsList-from_slice c.args.marks.now cc) c.filter_map.ensures.closure (λ x r q k. search rules))
+    (λ x y r q k. search (rules, tests))
