@@ -1,4 +1,4 @@
--- Stamps in the order of their exact fractions.
+-- Stamps in the order of their exact fractions, and the laws of a mark for a total order.
 use Rattle.std.specs.Prelude.{◌≡◌, ℕ, ◌*◌, ◌<◌, ◌≤◌, Bool, true, false, cond, nat_lt, ◌==◌, refl}
 use Rattle.std.specs.Cmp.{IsTotalOrder, nat_cmp_is}
 use Rattle.std.specs.declared.cmp.Ordering.{Ordering}
