@@ -12,11 +12,11 @@ use Rattle.state.specs.Ready.{across_from, out_from}
 use Rattle.state.specs.Due.{sooner_of, first_of, across_due, out_due, TellsAcross, TellsOut}
 
 -- the first of the same ticks is the same
-first_alike : (f g : ℕ → Option ℕ) → ((k : ℕ) → f k ≡ g k) → (n : ℕ) → first_of f n ≡ first_of g n
+pub first_alike : (f g : ℕ → Option ℕ) → ((k : ℕ) → f k ≡ g k) → (n : ℕ) → first_of f n ≡ first_of g n
 first_alike f g same n = λ k. first_of (λ j. same j k) n
 
 -- a table, of which the entry of flow (a, c) may have been replaced, is as it was in any other row or column
-other_row : {X : Type 0} (b : Bool) (table : ℕ → ℕ → X) (a c : ℕ) (x : X) (i j : ℕ) → (i ≡ a → ⊥) → cond {A = ℕ → ℕ → X} b (with_flow table a c x) table i j ≡ table i j
+pub other_row : {X : Type 0} (b : Bool) (table : ℕ → ℕ → X) (a c : ℕ) (x : X) (i j : ℕ) → (i ≡ a → ⊥) → cond {A = ℕ → ℕ → X} b (with_flow table a c x) table i j ≡ table i j
 other_row true table a c x i j ne = rw (ne_eqb i a ne) refl
 other_row false table a c x i j ne = refl
 
@@ -24,7 +24,7 @@ and_false : (b : Bool) → (b && false) ≡ false
 and_false true = refl
 and_false false = refl
 
-other_column : {X : Type 0} (b : Bool) (table : ℕ → ℕ → X) (a c : ℕ) (x : X) (i j : ℕ) → (j ≡ c → ⊥) → cond {A = ℕ → ℕ → X} b (with_flow table a c x) table i j ≡ table i j
+pub other_column : {X : Type 0} (b : Bool) (table : ℕ → ℕ → X) (a c : ℕ) (x : X) (i j : ℕ) → (j ≡ c → ⊥) → cond {A = ℕ → ℕ → X} b (with_flow table a c x) table i j ≡ table i j
 other_column true table a c x i j ne = ap (λ b. cond (eqb i a && b) x (table i j)) (ne_eqb j c ne) ∙ ap (λ b. cond b x (table i j)) (and_false (eqb i a))
 other_column false table a c x i j ne = refl
 

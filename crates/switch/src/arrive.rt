@@ -4,6 +4,7 @@ ghost use Rattle.state.specs.Arrives.{arrive_answer, arrive_state};
 ghost use Rattle.switch.specs.Calls.{Arrives, Keeps, state_of};
 
 use crate::flow::{ledger_at, set_ledger};
+use crate::ready::tick_from;
 use crate::running::Running;
 use crate::stamping::incoming_of;
 use grid::Flow;
@@ -39,6 +40,7 @@ impl<S: Store, R> Running<S, R> {
         let parts = self.plan.size.parts;
         let stamped = incoming_of(ledger.last, weight, self.clock, bytes, parts);
         let incoming = stamped.ok_or(ArriveFault::Full)?;
+        let next = self.store.count(input, output) == ledger.under_way;
         if !self.store.put(input, output, incoming) {
             return Err(ArriveFault::Full);
         }
@@ -48,8 +50,7 @@ impl<S: Store, R> Running<S, R> {
             ..ledger
         };
         set_ledger(&mut self.ledgers, flow, taken);
-        let longest = self.plan.size.longest;
-        self.due.renew(flow, &self.store, &self.ledgers, longest);
+        self.due.arrived(flow, next.then_some(tick_from(incoming.start)));
         Ok(())
     }
 }

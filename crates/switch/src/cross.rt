@@ -91,7 +91,9 @@ impl<S: Store, R> Running<S, R> {
         };
         set_ledger(&mut self.ledgers, flow, starting);
         let longest = self.plan.size.longest;
-        self.due.renew(flow, &self.store, &self.ledgers, longest);
+        let oldest = ledger.under_way == 0;
+        self.due
+            .started(flow, oldest, &self.store, &self.ledgers, longest);
         self.crossing[flow.input] = Some(Busy {
             load: flow.output,
             until: self.clock.wrapping_add(bytes),

@@ -1,5 +1,5 @@
 //! From when on each port may start something, its line left aside.
-ghost use Rattle.std.specs.Prelude.{◌≡◌, length, replicate, slice_set};
+ghost use Rattle.std.specs.Prelude.{◌≡◌, length, replicate, slice_index, slice_set, if◌then◌else◌};
 ghost use Rattle.plan.specs.declared.fault.TheConstants.{LAST_TICK as last};
 ghost use Rattle.state.specs.Due.{sooner_of, across_due, out_due};
 ghost use Rattle.state.specs.State.{ledger_in};
@@ -66,19 +66,65 @@ impl Due {
         }
     }
 
-    // Works out anew the ticks of the two ports of a flow.
-    pub(crate) fn renew<S: Store>(
+    // Works out anew the tick of a flow's input.
+    fn renew_input<S: Store>(&mut self, flow: Flow, store: &Numbered<S>, ledgers: &[Ledger; 256])
+        ensures across { self.new.across ≡ slice_set self.old.across flow.input (across_due (S.Store.lists store.now.store) (ledger_in ledgers.now) flow.input) }
+        ensures out { self.new.out ≡ self.old.out }
+    {
+        let input = flow.input;
+        self.across[input] = across_due(store, ledgers, Port { index: input });
+    }
+
+    // Works out anew the tick of a flow's output.
+    fn renew_output<S: Store>(&mut self, flow: Flow, store: &Numbered<S>, longest: u32)
+        ensures across { self.new.across ≡ self.old.across }
+        ensures out { self.new.out ≡ slice_set self.old.out flow.output (out_due longest (S.Store.lists store.now.store) flow.output) }
+    {
+        let output = flow.output;
+        self.out[output] = out_due(store, longest, Port { index: output });
+    }
+
+    // A packet has come to a flow: where it is the next one there to start across, from a tick on, it may be the soonest of its input.
+    pub(crate) fn arrived(&mut self, flow: Flow, next: Option<u128>)
+        ensures across { self.new.across ≡ slice_set self.old.across flow.input (sooner_of (slice_index self.old.across flow.input) next) }
+        ensures out { self.new.out ≡ self.old.out }
+    {
+        self.across[flow.input] = sooner(self.across[flow.input], next);
+    }
+
+    // A packet of a flow has started across. What is next at the output is as it was, but where it is the oldest one.
+    pub(crate) fn started<S: Store>(
         &mut self,
         flow: Flow,
+        oldest: bool,
         store: &Numbered<S>,
         ledgers: &[Ledger; 256],
         longest: u32,
     )
         ensures across { self.new.across ≡ slice_set self.old.across flow.input (across_due (S.Store.lists store.now.store) (ledger_in ledgers.now) flow.input) }
+        ensures out { self.new.out ≡ (if oldest then slice_set self.old.out flow.output (out_due longest (S.Store.lists store.now.store) flow.output) else self.old.out) }
+    {
+        self.renew_input(flow, store, ledgers);
+        if oldest {
+            self.renew_output(flow, store, longest);
+        }
+    }
+
+    // The oldest packet of a flow has left. What is next at the input is as it was, where the packet had started across.
+    pub(crate) fn left<S: Store>(
+        &mut self,
+        flow: Flow,
+        crossed: bool,
+        store: &Numbered<S>,
+        ledgers: &[Ledger; 256],
+        longest: u32,
+    )
+        ensures across { self.new.across ≡ (if crossed then self.old.across else slice_set self.old.across flow.input (across_due (S.Store.lists store.now.store) (ledger_in ledgers.now) flow.input)) }
         ensures out { self.new.out ≡ slice_set self.old.out flow.output (out_due longest (S.Store.lists store.now.store) flow.output) }
     {
-        let (input, output) = (flow.input, flow.output);
-        self.across[input] = across_due(store, ledgers, Port { index: input });
-        self.out[output] = out_due(store, longest, Port { index: output });
+        self.renew_output(flow, store, longest);
+        if !crossed {
+            self.renew_input(flow, store, ledgers);
+        }
     }
 }

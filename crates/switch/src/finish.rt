@@ -41,7 +41,9 @@ impl<S: Store, R> Running<S, R> {
         };
         set_ledger(&mut self.ledgers, flow, left);
         let longest = self.plan.size.longest;
-        self.due.renew(flow, &self.store, &self.ledgers, longest);
+        let crossed = ledger.under_way > 0;
+        self.due
+            .left(flow, crossed, &self.store, &self.ledgers, longest);
         self.sending[output] = None;
         Some(load)
     }

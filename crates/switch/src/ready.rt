@@ -8,7 +8,7 @@ use store::Packet;
 use timing::Stamp;
 
 // The first whole tick at or after a virtual time.
-fn tick_from(stamp: Stamp) -> u128
+pub(crate) fn tick_from(stamp: Stamp) -> u128
     ensures { result ≡ tick_from stamp }
 {
     u128::from(stamp.tick()) + u128::from(stamp.numerator() > 0)

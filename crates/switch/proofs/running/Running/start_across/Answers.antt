@@ -1,10 +1,11 @@
-use Rattle.std.proofs.Common.{◌≡◌, ◌+◌, ◌%◌, ◌^◌, length, get_or, None, sym, ap, ◌∙◌, arith, rules}
+use Rattle.std.proofs.Common.{◌≡◌, ◌+◌, ◌%◌, ◌^◌, length, get_or, None, sym, refl, ap, ◌∙◌, arith, rules}
 use Rattle.switch.specs.Calls.{state_of}
 use Rattle.grid.specs.Flows.{with_flow}
 use Rattle.state.specs.Lines.{with_line, busy}
 use Rattle.state.proofs.StartInCode.{crossed_is}
 use Rattle.state.proofs.Lists.{lines_set}
-use Rattle.state.proofs.DueKept.{across_kept, out_kept}
+use Rattle.state.proofs.DueKept.{across_kept}
+use Rattle.state.proofs.DueMoved.{out_started}
 use Rattle.state.specs.State.{ledger_in}
 use Rattle.switch.proofs.running.Running.start_across.Goals as goal
 
@@ -12,7 +13,7 @@ pub invariant_of-self-clause-inputs_due : goal.invariant_of-self-clause-inputs_d
 invariant_of-self-clause-inputs_due g c i hi =
     let s = c.args.self.now in
     let f = c.args.flow in
-    ap (λ row. get_or row i 0) c.renew.ensures.across
+    ap (λ row. get_or row i 0) c.started.ensures.across
     ∙ across_kept c.note.result (g.S.Store.lists s.store.store) (g.S.Store.lists c.note.new.self.store) f.input f.output _ c.note.ensures.lists s.due.across s.due.inputs
     (ledger_in s.ledgers) (ledger_in c.set_ledger.new.ledgers) _ c.set_ledger.ensures f.from_inside s.inputs_due i hi
 
@@ -20,9 +21,9 @@ pub invariant_of-self-clause-outputs_due : goal.invariant_of-self-clause-outputs
 invariant_of-self-clause-outputs_due g c j hj =
     let s = c.args.self.now in
     let f = c.args.flow in
-    ap (λ row. get_or row j 0) c.renew.ensures.out
-    ∙ out_kept c.note.result (g.S.Store.lists s.store.store) (g.S.Store.lists c.note.new.self.store) f.input f.output _ c.note.ensures.lists s.due.out s.due.outputs
-    s.plan.size.longest f.to_inside s.outputs_due j hj
+    ap (λ row. get_or row j 0) c.started.ensures.out
+    ∙ out_started c.note.result (g.S.Store.lists s.store.store) (g.S.Store.lists c.note.new.self.store) f.input f.output s.due.out s.due.outputs
+    _ c.ledger_at-ledger.result.now.under_way s.clock s.plan.size.longest refl c.note.ensures.lists f.to_inside s.outputs_due j hj
 
 pub returns-clause-state : goal.returns-clause-state
 returns-clause-state g c =
