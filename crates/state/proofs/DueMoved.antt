@@ -1,15 +1,15 @@
 -- What a packet that comes, starts across or leaves moves of the ticks of `across_due` and `out_due`: an arrival at most brings
 -- the tick of its input nearer; the others leave one port's tick as it was, but where none of the flow was under way.
-use Rattle.std.proofs.Common.{◌≡◌, ℕ, zero, suc, ◌+◌, ◌-◌, ◌<◌, ◌≤◌, min, Bool, true, false, cond, eqb, ltb, List, [], ◌∷◌, ◌++◌, length, get_or, drop, set, Some, None, Option, sym, refl, ap, ◌∙◌, subst, ⊎_elim, arith}
+use Rattle.std.proofs.Common.{◌≡◌, ℕ, zero, suc, ◌+◌, ◌-◌, ◌<◌, ◌≤◌, min, Bool, true, false, cond, ◌&&◌, eqb, ltb, List, [], ◌∷◌, ◌++◌, length, get_or, drop, set, Some, None, Option, is_some, sym, refl, ap, ◌∙◌, subst, ⊎_elim, arith}
 use Rattle.std.specs.List.{slice_get}
-use Rattle.std.proofs.lemmas.Bool.{cases_eq, eq-eqb, ne_eqb, lt-ltb}
+use Rattle.std.proofs.lemmas.Bool.{cases_eq, eq-eqb, ne_eqb, eqb-true, lt-ltb}
 use Rattle.std.proofs.lemmas.List.{get_or-set_same, get_or-set_other}
 use Rattle.grid.specs.Flows.{with_flow}
-use Rattle.store.specs.Stored.{noted, numbered}
+use Rattle.store.specs.Stored.{noted, numbered, started_across}
 use Rattle.store.specs.declared.packet.Packet.{Packet}
 use Rattle.store.specs.declared.packet.Incoming.{Incoming}
 use Rattle.state.specs.declared.line.Ledger.{Ledger}
-use Rattle.state.specs.Ready.{tick_from, across_from, out_from}
+use Rattle.state.specs.Ready.{tick_from, across_from, out_after, out_from}
 use Rattle.state.specs.Due.{sooner_of, first_of, across_due, out_due, oldest_across, oldest_out, TellsAcross, TellsOut}
 use Rattle.state.proofs.DueKept.{first_alike, other_row, other_column, across_kept, out_kept}
 
@@ -102,6 +102,23 @@ module _ (b : Bool) (lists after : ℕ → ℕ → List Packet) (a c : ℕ) (xs 
             (next_in_other_row i j)
             (cases_eq i a)
 
+  -- where the oldest packet of the flow comes nearer by a tick, so does the tick of output c
+  out_nearer : (L : ℕ) (t : Option ℕ) → ((best : ℕ) → sooner_of best (out_from L (slice_get (cond b xs (lists a c)) 0)) ≡ sooner_of (sooner_of best (out_from L (oldest_out lists a c))) t) →
+      a < 16 → c < 16 → TellsOut L lists row → TellsOut L after (set row c (sooner_of (get_or row c 0) t))
+  out_nearer L t nearer inside within tells j hj =
+      ⊎_elim
+      (λ (here : j ≡ c).
+      subst (λ k. get_or (set row c (sooner_of (get_or row c 0) t)) k 0 ≡ out_due L after k) (sym here)
+      (get_or-set_same row c (sooner_of (get_or row c 0) t) 0 (omega (arith, long, within))
+      ∙ ap (λ best. sooner_of best t) (tells c within)
+      ∙ sym (first_nearer (λ i. out_from L (oldest_out lists i c)) (λ i. out_from L (oldest_out after i c)) a t
+      (λ best. ap (λ ps. sooner_of best (out_from L (slice_get ps 0))) list_now ∙ nearer best) (λ i ne. ap (λ ps. out_from L (slice_get ps 0)) (other_list i c ne)) 16 inside)))
+      (λ (ne : j ≡ c → ⊥).
+      get_or-set_other row c j (sooner_of (get_or row c 0) t) 0 ne
+      ∙ tells j hj
+      ∙ first_alike (λ i. out_from L (oldest_out lists i j)) (λ i. out_from L (oldest_out after i j)) (λ i. ap (λ ps. out_from L (slice_get ps 0)) (sym (beside_list i j ne))) 16)
+      (cases_eq j c)
+
   -- where the oldest packet of the flow may start out from the same tick on, the ticks of all outputs are as they were
   out_same : (L : ℕ) → out_from L (slice_get (cond b xs (lists a c)) 0) ≡ out_from L (oldest_out lists a c) → TellsOut L lists row → TellsOut L after row
   out_same L same tells j hj = tells j hj ∙ first_alike (λ i. out_from L (oldest_out lists i j)) (λ i. out_from L (oldest_out after i j)) (λ i. sym (oldest i)) 16
@@ -153,6 +170,21 @@ noted_oldest true (suc u) t [] later = refl
 noted_oldest true (suc u) t (x ∷ xs) later = refl
 noted_oldest false (suc u) t xs later = refl
 
+no_tick : (o : Option ℕ) → is_some o ≡ false → o ≡ None
+no_tick None e = refl
+no_tick (Some x) e = absurd (cc)
+
+-- and brings its tick nearer, where it is the oldest and had none
+noted_nearer : (b : Bool) (L u t : ℕ) (p : Packet) (xs : List Packet) → eqb u 0 ≡ true → slice_get xs u ≡ Some p → b ≡ ltb u (length xs) → p.crossing ≡ None → (best : ℕ) →
+    sooner_of best (out_from L (slice_get (cond b (noted u t xs) xs) 0)) ≡ sooner_of (sooner_of best (out_from L (slice_get xs 0))) (out_from L (Some (started_across t p)))
+noted_nearer b L u t p [] same there granted none best = absurd (cc)
+noted_nearer b L zero t p (x ∷ xs) same there granted none best =
+    let is : x ≡ p = cc in
+    ap (λ v. sooner_of best (out_from L (slice_get (cond v (started_across t x ∷ xs) (x ∷ xs)) 0))) (granted ∙ lt-ltb 0 (suc (length xs)) (omega arith))
+    ∙ ap (λ q. sooner_of best (out_from L (Some (started_across t q)))) is
+    ∙ ap (λ o. sooner_of (sooner_of best (out_after L x o)) (out_from L (Some (started_across t p)))) (sym none ∙ ap (λ (q : Packet). q.crossing) (sym is))
+noted_nearer b L (suc u) t p (x ∷ xs) same there granted none best = absurd (omega (arith, eqb-true (suc u) 0 same))
+
 module _ (b : Bool) (lists after : ℕ → ℕ → List Packet) (a c : ℕ) (row : List ℕ) (long : length row ≡ 16) where
   -- a packet has come: the ledger's count of those under way is as it was
   module _ (n : ℕ) (p : Incoming) (is : after ≡ cond {A = ℕ → ℕ → List Packet} b (with_flow lists a c (lists a c ++ numbered n p ∷ [])) lists) (granted : b ≡ true) where
@@ -171,11 +203,21 @@ module _ (b : Bool) (lists after : ℕ → ℕ → List Packet) (a c : ℕ) (row
         (ap (λ v. out_from L (slice_get (cond v (lists a c ++ numbered n p ∷ []) (lists a c)) 0)) granted ∙ put_out L (lists a c) n p)
 
   -- a packet has started across: the ticks of the outputs
-  pub out_started : (oldest : Bool) (u t L : ℕ) → oldest ≡ eqb u 0 → after ≡ cond {A = ℕ → ℕ → List Packet} b (with_flow lists a c (noted u t (lists a c))) lists → c < 16 → TellsOut L lists row →
-      TellsOut L after (cond oldest (set row c (out_due L after c)) row)
-  out_started true u t L flag is inside tells = out_kept b lists after a c (noted u t (lists a c)) is row long L inside tells
-  out_started false u t L flag is inside tells =
-      out_same b lists after a c (noted u t (lists a c)) is row long L (ap (out_from L) (noted_oldest b u t (lists a c) (sym flag))) tells
+  pub out_started : (u t L : ℕ) (p : Packet) (next : Option ℕ) (again : Bool) → next ≡ out_from L (cond (eqb u 0) (Some (started_across t p)) None) → again ≡ (eqb u 0 && is_some p.crossing) →
+      slice_get (lists a c) u ≡ Some p → b ≡ ltb u (length (lists a c)) → after ≡ cond {A = ℕ → ℕ → List Packet} b (with_flow lists a c (noted u t (lists a c))) lists → a < 16 → c < 16 → TellsOut L lists row →
+      TellsOut L after (set row c (cond again (out_due L after c) (sooner_of (get_or row c 0) next)))
+  out_started u t L p next again ready twice there granted is inside within tells =
+      subst (λ o. TellsOut L after (set row c (cond again (out_due L after c) (sooner_of (get_or row c 0) o)))) (sym ready)
+      (subst (λ v. TellsOut L after (set row c (cond v (out_due L after c) (sooner_of (get_or row c 0) (out_from L (cond (eqb u 0) (Some (started_across t p)) None)))))) (sym twice)
+      (by (eqb u 0) refl (is_some p.crossing) refl))
+    where
+      by : (oldest : Bool) → eqb u 0 ≡ oldest → (had : Bool) → is_some p.crossing ≡ had →
+          TellsOut L after (set row c (cond (oldest && had) (out_due L after c) (sooner_of (get_or row c 0) (out_from L (cond oldest (Some (started_across t p)) None)))))
+      by false later had e = out_nearer b lists after a c (noted u t (lists a c)) is row long L None (λ best. ap (λ q. sooner_of best (out_from L q)) (noted_oldest b u t (lists a c) later)) inside within tells
+      by true same true e = out_kept b lists after a c (noted u t (lists a c)) is row long L within tells
+      by true same false e =
+          out_nearer b lists after a c (noted u t (lists a c)) is row long L (out_from L (Some (started_across t p)))
+          (λ best. noted_nearer b L u t p (lists a c) same there granted (no_tick p.crossing e) best) inside within tells
 
   -- a packet has left: the ticks of the inputs
   pub across_left : (crossed : Bool) (ledgers later : ℕ → ℕ → Ledger) (l : Ledger) → crossed ≡ ltb 0 (ledgers a c).under_way → later ≡ with_flow ledgers a c l → l.under_way ≡ (ledgers a c).under_way - 1 →

@@ -50,7 +50,8 @@ impl<S: Store, R> Running<S, R> {
             ..ledger
         };
         set_ledger(&mut self.ledgers, flow, taken);
-        self.due.arrived(flow, next.then_some(tick_from(incoming.start)));
+        self.due
+            .arrived(flow, next.then_some(tick_from(incoming.start)));
         Ok(())
     }
 }

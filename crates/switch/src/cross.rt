@@ -11,7 +11,7 @@ ghost use Rattle.state.specs.Crosses.{mark_across, marks_across, waits_across, q
 use crate::flow::{ledger_at, set_ledger};
 use crate::lines::is_busy;
 use crate::port::{Port, by_port};
-use crate::ready::mark_across;
+use crate::ready::{mark_across, out_from};
 use crate::running::Running;
 use grid::Flow;
 use state::{Busy, Ledger};
@@ -19,7 +19,9 @@ use store::{Packet, Store};
 use tie::{Question, TieRule};
 use timing::{Stamp, choose};
 
-// What a line asks the rule: which of its soonest marks are tied, and how many bytes wait.
+// What a line asks the rule: which of its soonest marks are tied, and how many bytes wait. It is inlined, so that LLVM leaves the
+// bytes out where a rule makes nothing of them.
+#[inline(always)]
 pub(crate) fn question(marks: [Option<Stamp>; 16], waiting: [u64; 16]) -> Question
     ensures { (result.tied ≡ tied earlier marks) × (result.waiting ≡ waiting) }
 {
@@ -92,8 +94,11 @@ impl<S: Store, R> Running<S, R> {
         set_ledger(&mut self.ledgers, flow, starting);
         let longest = self.plan.size.longest;
         let oldest = ledger.under_way == 0;
-        self.due
-            .started(flow, oldest, &self.store, &self.ledgers, longest);
+        let noted = oldest.then_some(packet.started_across(self.clock));
+        let next = out_from(noted, longest);
+        let again = oldest && packet.crossing.is_some();
+        self.due.renew_input(flow, &self.store, &self.ledgers);
+        self.due.started(flow, next, again, &self.store, longest);
         self.crossing[flow.input] = Some(Busy {
             load: flow.output,
             until: self.clock.wrapping_add(bytes),

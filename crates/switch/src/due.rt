@@ -67,7 +67,12 @@ impl Due {
     }
 
     // Works out anew the tick of a flow's input.
-    fn renew_input<S: Store>(&mut self, flow: Flow, store: &Numbered<S>, ledgers: &[Ledger; 256])
+    pub(crate) fn renew_input<S: Store>(
+        &mut self,
+        flow: Flow,
+        store: &Numbered<S>,
+        ledgers: &[Ledger; 256],
+    )
         ensures across { self.new.across ≡ slice_set self.old.across flow.input (across_due (S.Store.lists store.now.store) (ledger_in ledgers.now) flow.input) }
         ensures out { self.new.out ≡ self.old.out }
     {
@@ -84,7 +89,8 @@ impl Due {
         self.out[output] = out_due(store, longest, Port { index: output });
     }
 
-    // A packet has come to a flow: where it is the next one there to start across, from a tick on, it may be the soonest of its input.
+    // A packet has come to a flow. If it is the next one there, `next` is from when on it may start across, and it may be the
+    // soonest of its input now. No other port's tick changes.
     pub(crate) fn arrived(&mut self, flow: Flow, next: Option<u128>)
         ensures across { self.new.across ≡ slice_set self.old.across flow.input (sooner_of (slice_index self.old.across flow.input) next) }
         ensures out { self.new.out ≡ self.old.out }
@@ -92,25 +98,28 @@ impl Due {
         self.across[flow.input] = sooner(self.across[flow.input], next);
     }
 
-    // A packet of a flow has started across. What is next at the output is as it was, but where it is the oldest one.
+    // A packet of a flow has started across. If it is the oldest one, `next` is from when on it may start out, and it may be the
+    // soonest of its output now; had it started before, `again`, it may have been so already, and the tick is worked out anew.
     pub(crate) fn started<S: Store>(
         &mut self,
         flow: Flow,
-        oldest: bool,
+        next: Option<u128>,
+        again: bool,
         store: &Numbered<S>,
-        ledgers: &[Ledger; 256],
         longest: u32,
     )
-        ensures across { self.new.across ≡ slice_set self.old.across flow.input (across_due (S.Store.lists store.now.store) (ledger_in ledgers.now) flow.input) }
-        ensures out { self.new.out ≡ (if oldest then slice_set self.old.out flow.output (out_due longest (S.Store.lists store.now.store) flow.output) else self.old.out) }
+        ensures across { self.new.across ≡ self.old.across }
+        ensures out { self.new.out ≡ slice_set self.old.out flow.output (if again then out_due longest (S.Store.lists store.now.store) flow.output else sooner_of (slice_index self.old.out flow.output) next) }
     {
-        self.renew_input(flow, store, ledgers);
-        if oldest {
+        if again {
             self.renew_output(flow, store, longest);
+        } else {
+            self.out[flow.output] = sooner(self.out[flow.output], next);
         }
     }
 
-    // The oldest packet of a flow has left. What is next at the input is as it was, where the packet had started across.
+    // The oldest packet of a flow has left: works out anew the tick of its output. The next one to start across is as it was, if
+    // the packet had crossed; else the tick of its input is worked out anew too.
     pub(crate) fn left<S: Store>(
         &mut self,
         flow: Flow,
