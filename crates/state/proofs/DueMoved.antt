@@ -1,6 +1,7 @@
--- What a packet that comes, starts across or leaves moves of the ticks of `across_due` and `out_due`: an arrival at most brings
--- the tick of its input nearer; the others leave one port's tick as it was, but where none of the flow was under way.
-use Rattle.std.proofs.Common.{◌≡◌, ℕ, zero, suc, ◌+◌, ◌-◌, ◌<◌, ◌≤◌, min, Bool, true, false, cond, ◌&&◌, eqb, ltb, List, [], ◌∷◌, ◌++◌, length, get_or, drop, set, Some, None, Option, is_some, sym, refl, ap, ◌∙◌, subst, ⊎_elim, arith}
+-- What a packet that comes, starts across or leaves moves of the ticks of `across_due` and `out_due`. An arrival at most brings its
+-- input's tick nearer, and a start across its output's; the other tick that stays is that of a departure's input, where a packet
+-- of the flow was under way. Assumes nothing.
+use Rattle.std.proofs.Common.{◌≡◌, ℕ, zero, suc, ◌-◌, ◌<◌, ◌≤◌, min, Bool, true, false, cond, ◌&&◌, eqb, ltb, List, [], ◌∷◌, ◌++◌, length, get_or, drop, set, Some, None, Option, is_some, sym, refl, ap, ◌∙◌, subst, ⊎_elim, arith}
 use Rattle.std.specs.List.{slice_get}
 use Rattle.std.proofs.lemmas.Bool.{cases_eq, eq-eqb, ne_eqb, eqb-true, lt-ltb}
 use Rattle.std.proofs.lemmas.List.{get_or-set_same, get_or-set_other}
@@ -13,7 +14,7 @@ use Rattle.state.specs.Ready.{tick_from, across_from, out_after, out_from}
 use Rattle.state.specs.Due.{sooner_of, first_of, across_due, out_due, oldest_across, oldest_out, TellsAcross, TellsOut}
 use Rattle.state.proofs.DueKept.{first_alike, other_row, other_column, across_kept, out_kept}
 
--- of two ticks it's the same which is looked at first
+-- which of two ticks is looked at first makes no difference
 sooner_swap : (best : ℕ) (s t : Option ℕ) → sooner_of (sooner_of best s) t ≡ sooner_of (sooner_of best t) s
 sooner_swap best None t = refl
 sooner_swap best (Some s) None = refl
@@ -85,7 +86,7 @@ module _ (b : Bool) (lists after : ℕ → ℕ → List Packet) (a c : ℕ) (xs 
         ∙ first_alike (λ j. across_from (oldest_across lists ledgers i j)) (λ j. across_from (oldest_across after later i j)) (λ j. ap across_from (sym (next_in_other_row i j ne))) 16)
         (cases_eq i a)
 
-    -- where it's the same one, the ticks of all inputs are as they were
+    -- where the next packet of the flow is the same one, the ticks of all inputs are as they were
     across_same : slice_get (cond b xs (lists a c)) l.under_way ≡ oldest_across lists ledgers a c → TellsAcross lists ledgers row → TellsAcross after later row
     across_same same tells i hi =
         tells i hi
@@ -148,7 +149,7 @@ put_next [] (suc u) p best = ap (λ v. sooner_of best (cond v (Some (tick_from p
 put_next (x ∷ xs) zero p best = ap (λ v. sooner_of (min best (tick_from x.start)) (cond v (Some (tick_from p.start)) None)) (sym (ne_eqb (suc (length xs)) 0 (λ e. omega (arith, e))))
 put_next (x ∷ xs) (suc u) p best = put_next xs u p best ∙ ap (λ v. sooner_of (sooner_of best (across_from (slice_get xs u))) (cond v (Some (tick_from p.start)) None)) (sym (next_number (length xs) u))
 
--- and the oldest one with no crossing tick, where it's the oldest
+-- it may not start out yet, so what may at its output is as it was
 put_out : (L : ℕ) (xs : List Packet) (n : ℕ) (p : Incoming) → out_from L (slice_get (xs ++ numbered n p ∷ []) 0) ≡ out_from L (slice_get xs 0)
 put_out L [] n p = refl
 put_out L (x ∷ xs) n p = refl
@@ -174,7 +175,7 @@ no_tick : (o : Option ℕ) → is_some o ≡ false → o ≡ None
 no_tick None e = refl
 no_tick (Some x) e = absurd (cc)
 
--- and brings its tick nearer, where it is the oldest and had none
+-- the oldest, where it had no tick to start out at, brings one nearer
 noted_nearer : (b : Bool) (L u t : ℕ) (p : Packet) (xs : List Packet) → eqb u 0 ≡ true → slice_get xs u ≡ Some p → b ≡ ltb u (length xs) → p.crossing ≡ None → (best : ℕ) →
     sooner_of best (out_from L (slice_get (cond b (noted u t xs) xs) 0)) ≡ sooner_of (sooner_of best (out_from L (slice_get xs 0))) (out_from L (Some (started_across t p)))
 noted_nearer b L u t p [] same there granted none best = absurd (cc)
