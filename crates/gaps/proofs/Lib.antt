@@ -1,1 +1,1 @@
-mod Limited
+mod Filled
