@@ -32,8 +32,8 @@ fn read_at<R: Read>(input: &mut R, buf: &mut [u8], at: usize) -> io::Result<usiz
     input.read(&mut buf[at..])
 }
 
-// The first bytes of an input, at most 65,537. Each read has all the room that is left, as `read_to_end` would not give it:
-// of a packet that comes to standard input, what a read has no room for is lost.
+// The first bytes of an input, at most 65,537. Each read has all the room that is left, which `read_to_end` would not give it:
+// where a socket hands over whole messages, what a read has no room for is lost.
 fn read_file<R: Read>(alloc: Global, input: &mut R) -> anyhow::Result<Vec<u8>>
     ensures { IfOk result (λ file. IfSome (R.remaining input.old) (λ bytes. file.items ≡ take 65537 bytes)) }
 {
